@@ -1,0 +1,12 @@
+pub mod Scan
+pub mod Floors
+pub mod Years
+pub mod Months
+pub mod March
+pub mod Numbers
+pub mod Order
+pub mod Multiples
+pub mod Lift
+pub mod Periods
+pub mod Shifts
+pub mod Weeks

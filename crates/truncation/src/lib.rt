@@ -1,0 +1,32 @@
+// Timestamps and times of day cut to the first instant of their second, day, month or the like.
+mod boundary;
+mod date_trunc;
+mod granularity;
+mod moment;
+mod name;
+mod time;
+mod unit;
+
+pub use date_trunc::date_trunc_timestamp_value;
+pub use date_trunc::general_date_trunc;
+pub use granularity::Granularity;
+pub use granularity::GranularityDebug;
+pub use granularity::GranularityEq;
+pub use granularity::GranularityPartialEq;
+pub use time::truncate_time_micros;
+pub use time::truncate_time_millis;
+pub use time::truncate_time_nanos;
+pub use time::truncate_time_secs;
+pub use unit::ArrowTimestampType;
+pub use unit::MicrosecondTimestamps;
+pub use unit::MillisecondTimestamps;
+pub use unit::NanosecondTimestamps;
+pub use unit::SecondTimestamps;
+pub use unit::TimeUnit;
+pub use unit::TimeUnitDebug;
+pub use unit::TimeUnitEq;
+pub use unit::TimeUnitPartialEq;
+pub use unit::TimestampMicrosecondType;
+pub use unit::TimestampMillisecondType;
+pub use unit::TimestampNanosecondType;
+pub use unit::TimestampSecondType;

@@ -1,11 +1,11 @@
 -- Quotients rounded down and remainders of integers by a positive number, in the form that `omega` reads: an integer z is `up z - down z`.
 use mathlib.Core.Logic.{_⊎_, inl, inr}
 use mathlib.Core.Path.{_≡_, refl, sym, ap, _∙_}
-use Prim.Native.Nat.{ℕ, zero, suc, _+_, _-_, _*_, _/_, _%_, _≤_, _<_}
+use Prim.Native.Nat.{ℕ, zero, suc, _+_, _-_, _*_, _/_, _<_}
 use native.Mathlib.Omega.{arith}
-use borrow.Author.Differences.{ints, up, down}
+use borrow.Author.Differences.{up, down}
 use lib.Arith.{digits-div}
-use lib.IntN.{ℤ, pos, negsuc, predℤ, sucℤ, natAbs, _+ℤ_, _-ℤ_, _*ℤ_}
+use lib.IntN.{ℤ, pos, negsuc, predℤ, sucℤ, natAbs}
 use Rattle.std.proofs.shelf.Tests.{cases-eq}
 use Rattle.std.specs.Numbers.{divEuclid, remEuclid}
 

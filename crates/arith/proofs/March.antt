@@ -1,14 +1,14 @@
 -- Years that begin on 1 March, counted from 0000-03-01, and the year of a day of an era of 400 such years.
-use mathlib.Core.Bool.{Bool, true, false, cond}
-use mathlib.Core.Logic.{_⊎_, inl, inr}
-use mathlib.Core.Path.{_≡_, refl, sym, ap, subst, _∙_}
+use mathlib.Core.Bool.{Bool, true, false}
+use mathlib.Core.Logic.{inl, inr}
+use mathlib.Core.Path.{_≡_, refl}
 use Prim.Native.Nat.{ℕ, zero, suc, _+_, _-_, _*_, _/_, _%_, _≤_, _<_}
 use native.Mathlib.Nat.{add-assoc, add-zero, div-div-eq-div-mul}
 use native.Mathlib.Numerals.{add-one}
 use native.Mathlib.Omega.{arith}
-use borrow.Author.Differences.{ints, up, down}
-use lib.Dec.{T, eqb, ltb, lit<, eqb→eq}
-use lib.IntN.{ℤ, pos, negsuc, _+ℤ_, _-ℤ_}
+use borrow.Author.Differences.{ints}
+use lib.Dec.{T, eqb, eqb→eq}
+use lib.IntN.{ℤ, pos, _+ℤ_}
 use Rattle.std.proofs.shelf.Tests.{cases-lt}
 use Rattle.arith.proofs.Scan.{both, both-left, both-right, scan, scanned}
 use Rattle.arith.proofs.Years.{days-is, days-next}

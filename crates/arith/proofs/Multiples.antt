@@ -1,14 +1,13 @@
 -- The greatest multiple of a number that is not after an integer: what every truncation to a fixed length stands on.
-use mathlib.Core.Logic.{_⊎_, inl, inr}
-use mathlib.Core.Path.{_≡_, refl, sym, ap, _∙_}
-use Prim.Native.Nat.{ℕ, zero, suc, _+_, _-_, _*_, _≤_, _<_}
+use mathlib.Core.Logic.{inl, inr}
+use mathlib.Core.Path.{_≡_, ap}
+use Prim.Native.Nat.{ℕ, _+_, _-_, _*_, _≤_, _<_}
 use native.Mathlib.Nat.{mul-le-mul-left}
 use native.Mathlib.Omega.{arith}
 use borrow.Author.Differences.{ints, up, down}
-use lib.IntN.{ℤ, pos, negsuc, natAbs, _+ℤ_, _-ℤ_}
-use lib.Signed.{_<ℤ_, _≤ℤ_}
+use lib.IntN.{ℤ, pos, _+ℤ_}
+use lib.Signed.{_≤ℤ_}
 use Rattle.std.proofs.shelf.Tests.{cases-lt}
-use Rattle.std.specs.Numbers.{divEuclid, remEuclid}
 use Rattle.arith.proofs.Floors.{rem, quot, floor-is, same-quotient}
 use Rattle.arith.specs.Greatest.{GreatestNotAfter}
 

@@ -1,17 +1,17 @@
 -- The number of a date by years that begin in March, and the date of a number.
-use mathlib.Core.Bool.{Bool, true, false, cond}
-use mathlib.Core.Logic.{_⊎_, inl, inr}
-use mathlib.Core.Path.{_≡_, refl, sym, ap, subst, _∙_}
-use Prim.Native.Nat.{ℕ, zero, suc, _+_, _-_, _*_, _/_, _%_, _≤_, _<_}
+use mathlib.Core.Bool.{Bool, cond}
+use mathlib.Core.Logic.{inl, inr}
+use mathlib.Core.Path.{_≡_, refl, _∙_}
+use Prim.Native.Nat.{ℕ, _+_, _-_, _*_, _/_, _≤_, _<_}
 use native.Mathlib.Omega.{arith}
-use borrow.Author.Differences.{ints, up, down}
-use lib.Dec.{T, eqb, ltb}
-use lib.IntN.{ℤ, pos, negsuc, _+ℤ_, _-ℤ_}
+use borrow.Author.Differences.{ints}
+use lib.Dec.{eqb, ltb}
+use lib.IntN.{ℤ, pos, _+ℤ_}
 use Rattle.std.proofs.shelf.Tests.{cases-lt, cond-both, lt-ltb, le-ltb}
-use Rattle.arith.proofs.March.{march-next, march-mono, start-is, year-long, yearOfDay, year-of-day}
+use Rattle.arith.proofs.March.{march-next, march-mono, start-is, year-long}
 use Rattle.arith.proofs.Months.{march-days, march-length, march-end}
 use Rattle.arith.specs.March.{march, marchDays, marchMonth, marchYear, sinceMarch}
-use Rattle.arith.specs.Gregorian.{leap, daysBefore, monthLength, yearStart, yearLength, dayNumber, IsDate}
+use Rattle.arith.specs.Gregorian.{leap, monthLength, yearLength, dayNumber}
 
 march-year : (y m : ℕ) → 1 ≤ y → march (y - 1) + cond (ltb m 3) 0 (yearLength (leap (pos y))) ≡ march (marchYear y m)
 march-year y m h = elim (cases-lt m 3) [

@@ -1,16 +1,14 @@
 -- The numbers of dates: the next date, the order of dates, and one date for each number.
-use mathlib.Core.Bool.{Bool, true, false, cond}
 use mathlib.Core.Logic.{_⊎_, inl, inr}
-use mathlib.Core.Path.{_≡_, refl, sym, ap, subst, _∙_}
-use Prim.Native.Nat.{ℕ, zero, suc, _+_, _-_, _*_, _≤_, _<_}
+use mathlib.Core.Path.{_≡_, refl, sym, _∙_}
+use Prim.Native.Nat.{ℕ, zero, suc, _+_, _-_, _≤_, _<_}
 use native.Mathlib.Omega.{arith}
-use borrow.Author.Differences.{ints, up, down, same-in}
-use lib.IntN.{ℤ, pos, negsuc, negℤ, predℤ, sucℤ, _+ℤ_, _-ℤ_}
+use borrow.Author.Differences.{ints, up, down}
+use lib.IntN.{ℤ, pos, negℤ, predℤ, sucℤ, _+ℤ_}
 use lib.Signed.{_<ℤ_, _≤ℤ_}
 use Rattle.std.proofs.shelf.Signed.{by-ltZ}
 use Rattle.std.proofs.shelf.Tests.{cases-order}
 use Rattle.arith.proofs.Floors.{suc-is}
-use Rattle.arith.proofs.March.{year-long}
 use Rattle.arith.proofs.Months.{next-month, first-month, all-months, some-day, up-to, later-month}
 use Rattle.arith.proofs.Years.{next-year}
 use Rattle.arith.specs.Gregorian.{leap, daysBefore, daysInYears, monthLength, yearStart, yearLength, dayNumber, IsDate, InSpan, InYears}

@@ -1,17 +1,17 @@
 -- The first day of the month, quarter or year that holds a date is the greatest such day not after it.
-use mathlib.Core.Logic.{_⊎_, inl, inr}
-use mathlib.Core.Path.{_≡_, refl, sym, ap, ap₂, _∙_}
-use Prim.Native.Nat.{ℕ, zero, suc, _+_, _-_, _*_, _/_, _%_, _≤_, _<_}
+use mathlib.Core.Logic.{inl, inr}
+use mathlib.Core.Path.{_≡_, refl, ap₂}
+use Prim.Native.Nat.{ℕ, _+_, _-_, _*_, _/_, _%_, _≤_, _<_}
 use native.Mathlib.Nat.{div-add-mod', mul-le-mul-left}
 use native.Mathlib.Omega.{arith}
-use borrow.Author.Differences.{ints, up, down}
+use borrow.Author.Differences.{ints}
 use lib.Arith.{digits-mod}
-use lib.IntN.{ℤ, pos, negsuc, _+ℤ_, _-ℤ_}
+use lib.IntN.{ℤ}
 use lib.Signed.{_<ℤ_, _≤ℤ_, <ℤ-irrefl}
 use Rattle.std.proofs.shelf.Tests.{cases-lt}
 use Rattle.arith.proofs.Months.{some-day}
 use Rattle.arith.proofs.Multiples.{apart}
-use Rattle.arith.proofs.Order.{Compared, compared, later-number}
+use Rattle.arith.proofs.Order.{compared, later-number}
 use Rattle.arith.specs.Greatest.{GreatestNotAfter}
 use Rattle.arith.specs.Periods.{IsFirstDay, firstMonthOf}
 use Rattle.arith.specs.Gregorian.{leap, dayNumber, IsDate}

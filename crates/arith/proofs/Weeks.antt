@@ -1,12 +1,11 @@
 -- The days of the week follow one another.
-use mathlib.Core.Path.{_≡_, refl}
-use Prim.Native.Nat.{ℕ, zero, suc, _+_, _%_, _≤_}
+use mathlib.Core.Path.{refl}
+use Prim.Native.Nat.{_+_}
 use native.Mathlib.Omega.{arith}
 use borrow.Author.Differences.{ints}
 use lib.Dec.{lit<}
 use lib.IntN.{ℤ, pos, sucℤ, _+ℤ_}
-use Rattle.arith.proofs.Floors.{rem, quot, floor-is, suc-is}
-use Rattle.arith.proofs.Multiples.{floor-unique}
+use Rattle.arith.proofs.Floors.{floor-is, suc-is}
 use Rattle.arith.specs.Weekdays.{weekday, EpochIsThursday, WeekdaysTurn}
 
 pub thursday : EpochIsThursday

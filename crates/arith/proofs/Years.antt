@@ -2,15 +2,13 @@
 use mathlib.Core.Bool.{Bool, true, false, cond}
 use mathlib.Core.Logic.{_⊎_, inl, inr}
 use mathlib.Core.Path.{_≡_, refl}
-use Prim.Native.Nat.{ℕ, zero, suc, _+_, _-_, _*_, _/_, _%_, _≤_, _<_}
+use Prim.Native.Nat.{ℕ, zero, suc, _+_, _-_, _*_, _<_}
 use native.Mathlib.Omega.{arith}
 use borrow.Author.Differences.{ints, up, down}
 use lib.Dec.{eqb, lit<}
-use lib.IntN.{ℤ, pos, negsuc, predℤ, sucℤ, natAbs, pred-suc, _+ℤ_, _-ℤ_, _*ℤ_}
-use lib.Signed.{_<ℤ_, _≤ℤ_}
+use lib.IntN.{ℤ, pos, negsuc, predℤ, sucℤ, pred-suc, _+ℤ_}
 use Rattle.std.proofs.shelf.Tests.{cases-eq, eq-eqb, ne-eqb}
-use Rattle.std.specs.Numbers.{divEuclid, remEuclid}
-use Rattle.arith.proofs.Floors.{rem, quot, floor-is, floor-step, pred-is, suc-is}
+use Rattle.arith.proofs.Floors.{rem, floor-step, pred-is}
 use Rattle.arith.specs.Gregorian.{multiple, leap, floorDiv, daysInYears, yearStart, yearLength}
 
 -- what a leap year is, by remainders

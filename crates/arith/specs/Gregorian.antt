@@ -1,12 +1,11 @@
 -- The proleptic Gregorian calendar of ISO 8601, over every integer year: which years are leap years, how long the months are, and the number of a day, counted from 1970-01-01, which is day 0.
-use mathlib.Core.Bool.{Bool, true, false, cond}
+use mathlib.Core.Bool.{Bool, cond}
 use mathlib.Core.List.{List, [], _∷_}
-use mathlib.Core.Path.{_≡_}
 use Prim.Native.Nat.{ℕ, _+_, _-_, _*_, _≤_}
 use lib.Dec.{eqb}
-use lib.IntN.{ℤ, pos, negsuc, predℤ, sucℤ, negℤ, natAbs, _+ℤ_, _-ℤ_, _*ℤ_}
+use lib.IntN.{ℤ, pos, predℤ, negℤ, natAbs, _+ℤ_, _-ℤ_, _*ℤ_}
 use lib.ListN.{getD, take}
-use lib.Signed.{_<ℤ_, _≤ℤ_}
+use lib.Signed.{_≤ℤ_}
 use Rattle.std.specs.Numbers.{divEuclid, remEuclid}
 use Rattle.std.specs.shelf.Lists.{sum}
 

@@ -1,8 +1,7 @@
 // Dates and day numbers, by Howard Hinnant's algorithms over years that begin in March.
 ghost use mathlib.Core.Path.{_≡_};
 ghost use Prim.Native.Nat.{_≤_, _<_, _+_};
-ghost use lib.IntN.{pos, negsuc, negℤ};
-ghost use lib.Signed.{_≤ℤ_};
+ghost use lib.IntN.{pos};
 ghost use Rattle.std.specs.Results.{Cases};
 ghost use Rattle.arith.specs.Gregorian.{IsDate, InSpan, InYears};
 ghost use Rattle.arith.specs.Laws.{OnlyDate, Numbered};
@@ -13,9 +12,9 @@ use crate::date::Date;
 use crate::fault::Fault;
 use crate::fault::outside_calendar;
 
-pub(crate) const FIRST_DAY: i64 = -719_162;
+const FIRST_DAY: i64 = -719_162;
 
-pub(crate) const LAST_DAY: i64 = 2_932_896;
+const LAST_DAY: i64 = 2_932_896;
 
 // The days from 0000-03-01 to 1970-01-01.
 const MARCH_TO_EPOCH: i64 = 719_468;

@@ -11,7 +11,6 @@ mod shift;
 mod weekday;
 
 pub use boundary::period_start;
-pub use boundary::week_start;
 pub use civil::civil_from_days;
 pub use civil::days_from_civil;
 pub use date::Date;

@@ -1,7 +1,7 @@
 // A date-time some months later or earlier.
 ghost use mathlib.Core.Path.{_≡_};
 ghost use Prim.Native.Nat.{_≤_, _<_};
-ghost use lib.IntN.{pos, _+ℤ_};
+ghost use lib.IntN.{pos};
 ghost use Rattle.std.specs.Results.{Cases};
 ghost use Rattle.arith.specs.Shift.{IndexInYears};
 ghost use Rattle.calendar.specs.Moves.{Moved, DateMoved, indexAfter};

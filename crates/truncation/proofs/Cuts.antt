@@ -1,13 +1,12 @@
 -- Moments cut to fixed lengths and to midnights, in nanoseconds.
-use mathlib.Core.Logic.{_⊎_, inl, inr}
-use mathlib.Core.Path.{_≡_, refl, sym, ap, subst, _∙_}
+use mathlib.Core.Logic.{inl, inr}
+use mathlib.Core.Path.{_≡_, refl, sym, subst}
 use Prim.Native.Nat.{ℕ, _+_, _-_, _*_, _%_, _≤_, _<_}
 use native.Mathlib.Omega.{arith}
 use borrow.Author.Differences.{ints}
 use lib.Dec.{lit<}
 use lib.IntN.{ℤ, pos, negℤ, _+ℤ_, _-ℤ_, _*ℤ_}
-use lib.Signed.{_≤ℤ_}
-use Rattle.std.specs.Numbers.{divEuclid, remEuclid}
+use Rattle.std.specs.Numbers.{remEuclid}
 use Rattle.arith.proofs.Floors.{rem, quot, floor-is, rem-is}
 use Rattle.arith.proofs.Lift.{lift, greatest-whole}
 use Rattle.arith.proofs.Multiples.{floor-unique}

@@ -1,13 +1,13 @@
 -- How a name is folded, from the front.
-use mathlib.Core.Bool.{Bool, true, false, cond, _&&_}
+use mathlib.Core.Bool.{Bool, true, false}
 use mathlib.Core.List.{List, [], _∷_, _++_}
-use mathlib.Core.Path.{_≡_, refl, sym, ap, subst, _∙_}
+use mathlib.Core.Path.{_≡_, refl, sym, ap, _∙_}
 use Prim.Native.Nat.{ℕ, zero, suc, _+_, _-_, _≤_, _<_}
 use native.Mathlib.Omega.{arith}
 use lib.Dec.{eqb}
 use lib.ListN.{getD, length, take, drop}
 use Rattle.std.proofs.shelf.Lists.{take-all, length-drop, length-append}
-use Rattle.std.proofs.shelf.Tests.{cond-true, cond-false, eq-eqb, ne-eqb, and-right}
+use Rattle.std.proofs.shelf.Tests.{cond-false, eq-eqb, ne-eqb, and-right}
 use Rattle.std.specs.Text.{lower}
 use Rattle.truncation.specs.Names.{folded, foldedPast, kelvin}
 

@@ -1,14 +1,14 @@
 -- Values less their remainder toward zero.
 use mathlib.Core.Logic.{_⊎_, inl, inr}
-use mathlib.Core.Path.{_≡_, refl, sym, ap, subst, _∙_}
-use Prim.Native.Nat.{ℕ, zero, suc, _+_, _-_, _*_, _/_, _%_, _≤_, _<_}
+use mathlib.Core.Path.{_≡_}
+use Prim.Native.Nat.{ℕ, zero, suc, _-_, _%_, _≤_, _<_}
 use native.Mathlib.Omega.{arith}
-use borrow.Author.Differences.{ints, up, down}
-use lib.IntN.{ℤ, pos, negsuc, negℤ, _+ℤ_, _-ℤ_, _*ℤ_}
+use borrow.Author.Differences.{ints}
+use lib.IntN.{ℤ, pos, negsuc, negℤ, _-ℤ_}
 use lib.Signed.{_≤ℤ_, remZ}
 use mir.Syntax.{w64}
 use mir.Val.{SFits, toZ, ofZ}
-use Rattle.arith.proofs.Floors.{rem, quot, floor-is}
+use Rattle.arith.proofs.Floors.{quot, floor-is}
 use Rattle.arith.proofs.Lift.{greatest-whole, times}
 use Rattle.arith.specs.Greatest.{GreatestNotAfter, MultipleOf}
 use Rattle.truncation.specs.Times.{TowardZero}

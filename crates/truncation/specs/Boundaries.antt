@@ -1,5 +1,4 @@
 -- The boundaries of each granularity: the first instants of its spans, in nanoseconds, over all integers.
-use Prim.Native.Nat.{ℕ}
 use lib.IntN.{ℤ}
 use Rattle.arith.specs.Greatest.{MultipleOf, TimesOne}
 use Rattle.arith.specs.Periods.{IsFirstDay}

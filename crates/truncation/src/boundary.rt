@@ -3,9 +3,7 @@ ghost use mathlib.Core.Path.{_≡_};
 ghost use lib.IntN.{pos, _*ℤ_};
 ghost use Rattle.std.specs.Results.{Cases};
 ghost use Rattle.arith.specs.Greatest.{GreatestNotAfter};
-ghost use Rattle.arith.specs.Periods.{IsFirstDay};
-ghost use Rattle.arith.specs.Weekdays.{IsMonday};
-ghost use Rattle.calendar.specs.Spans.{monthsIn};
+ghost use Rattle.calendar.specs.Spans.{FirstDayOf};
 ghost use Rattle.truncation.specs.Boundaries.{Boundary, MidnightOf};
 ghost use Rattle.truncation.specs.Moments.{nanosOf, InReach, Near};
 use crate::granularity::Granularity;
@@ -13,7 +11,6 @@ use crate::moment::Moment;
 use calendar::Fault;
 use calendar::Period;
 use calendar::period_start;
-use calendar::week_start;
 
 // The first moment of a day.
 fn midnight(day: i64) -> Moment
@@ -26,17 +23,10 @@ fn midnight(day: i64) -> Moment
     }
 }
 
-fn first_of_week(at: Moment) -> Result<Moment, Fault>
-    requires { ⌜ Near (at .second) ⌝ }
-    ensures { λ r. ⌜ Cases r (λ m. GreatestNotAfter (MidnightOf IsMonday) (nanosOf at) (nanosOf m)) (λ f. ⊥) ⌝ }
-{
-    let day = week_start(at.day())?;
-    Ok(midnight(day))
-}
-
+// The first moment of the period that holds a moment.
 fn first_of_period(period: Period, at: Moment) -> Result<Moment, Fault>
     requires { ⌜ Near (at .second) ⌝ }
-    ensures { λ r. ⌜ Cases r (λ m. GreatestNotAfter (MidnightOf (IsFirstDay (monthsIn period))) (nanosOf at) (nanosOf m)) (λ f. ⊥) ⌝ }
+    ensures { λ r. ⌜ Cases r (λ m. GreatestNotAfter (MidnightOf (FirstDayOf period)) (nanosOf at) (nanosOf m)) (λ f. ⊥) ⌝ }
 {
     let day = period_start(period, at.day())?;
     Ok(midnight(day))
@@ -54,7 +44,7 @@ pub(crate) fn date_trunc_coarse(granularity: Granularity, at: Moment) -> Result<
         Granularity::Minute => Ok(at.cut_seconds(60)),
         Granularity::Hour => Ok(at.cut_seconds(3_600)),
         Granularity::Day => Ok(at.cut_seconds(86_400)),
-        Granularity::Week => first_of_week(at),
+        Granularity::Week => first_of_period(Period::Week, at),
         Granularity::Month => first_of_period(Period::Month, at),
         Granularity::Quarter => first_of_period(Period::Quarter, at),
         Granularity::Year => first_of_period(Period::Year, at),

@@ -1,7 +1,7 @@
 -- The Monday is the greatest multiple of seven days, counted from a Monday.
 use borrow.Author.Differences.{ints}
 use lib.Dec.{lit<}
-use lib.IntN.{pos, _+ℤ_, _-ℤ_}
+use lib.IntN.{pos, _+ℤ_}
 use mathlib.Core.Path.{_≡_, _∙_}
 use mir.Syntax.{w64}
 use mir.Val.{toZ, ofZ}

@@ -7,14 +7,14 @@ use mir.Syntax.{w64}
 use mir.Val.{toZ, ofZ}
 use Rattle.std.proofs.shelf.Signed.{toZ-ofZ}
 use Rattle.arith.proofs.Order.{numbered, in-span}
-use Rattle.arith.specs.Gregorian.{IsDate}
 use Rattle.calendar.specs.DateTimes.{numberOf}
+use Rattle.calendar.proofs.Dates.{is-date}
 use Rattle.calendar.proofs.civil.days_from_date.Needs as need
 
 pub returns : need.returns
 returns c =
     let t = c .args .date in
-    let v : IsDate (pos (t .year)) (t .month) (t .day) = record { firstMonth = t .«first_month»; lastMonth = t .«last_month»; firstDay = t .«first_day»; lastDay = t .«last_day» } in
+    let v = is-date t in
     let e : toZ w64 (ofZ w64 (c .march-number .result)) ≡ numberOf t = toZ-ofZ w64 _ (record { sfits = c .march-number .ok }) ∙ c .march-number .ensures in
     record {
       number = e;

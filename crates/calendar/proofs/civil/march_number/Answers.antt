@@ -1,6 +1,6 @@
 -- The number of a date, by the year beginning in March that holds it.
-use mathlib.Core.Path.{_≡_, refl, sym, ap}
-use Prim.Native.Nat.{ℕ, _+_, _-_, _*_, _/_, _≤_, _<_}
+use mathlib.Core.Path.{_≡_}
+use Prim.Native.Nat.{ℕ, _+_, _-_, _≤_, _<_}
 use borrow.Author.Differences.{ints}
 use native.Mathlib.Omega.{arith}
 use Rattle.arith.proofs.Numbers.{number-is, since-march, since-january, since-below}

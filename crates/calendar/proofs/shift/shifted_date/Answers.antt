@@ -1,13 +1,12 @@
 -- The month and its year by the index, and the day lowered to the month's last.
-use mathlib.Core.Path.{_≡_, refl, sym, ap, _∙_}
-use Prim.Native.Nat.{ℕ, _+_, _/_, _%_, _≤_, min}
+use mathlib.Core.Path.{_≡_, ap, _∙_}
+use Prim.Native.Nat.{ℕ, _+_, _/_, _%_, min}
 use borrow.Author.Differences.{ints}
 use lib.IntN.{pos}
 use native.Mathlib.Omega.{arith}
 use Rattle.arith.proofs.Months.{some-day}
 use Rattle.arith.proofs.Shifts.{shifted-to}
 use Rattle.arith.specs.Gregorian.{leap, monthLength}
-use Rattle.arith.specs.Shift.{Shifted}
 use Rattle.calendar.proofs.shift.shifted_date.Needs as need
 
 -- the day, by what `is_leap`, `month_length` and `min` answer

@@ -1,8 +1,5 @@
 -- The index of the month, in the span or out of it.
 use borrow.Author.Differences.{ints}
-use lib.Dec.{lit<}
-use lib.IntN.{ℤ, pos, _+ℤ_}
-use mathlib.Core.Path.{_≡_}
 use native.Mathlib.Omega.{arith}
 use Rattle.arith.specs.Shift.{monthIndex}
 use Rattle.calendar.proofs.shift.shifted_month.Needs as need

@@ -1,10 +1,9 @@
 -- Letter by letter.
-use mathlib.Core.Bool.{Bool, true, false}
-use mathlib.Core.List.{List, [], _∷_, _++_}
-use mathlib.Core.Path.{_≡_, refl, sym, ap, _∙_}
-use Prim.Native.Nat.{ℕ, _≤_, _<_}
+use mathlib.Core.Bool.{false}
+use mathlib.Core.List.{_++_}
+use mathlib.Core.Path.{refl, ap, _∙_}
 use native.Mathlib.Omega.{arith}
-use lib.ListN.{getD, length, take}
+use lib.ListN.{take}
 use Rattle.truncation.specs.Names.{folded}
 use Rattle.truncation.proofs.Folds.{differs-at, one-more, all-read, too-long}
 use Rattle.truncation.proofs.Folds.{true-not-false}

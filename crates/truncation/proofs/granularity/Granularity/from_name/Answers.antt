@@ -1,5 +1,4 @@
 -- The two longest names, which a search does not write out.
-use mathlib.Core.Path.{refl}
 use Rattle.truncation.proofs.granularity.Granularity.from_name.Needs as need
 
 pub returns-then-reads-as : need.returns-then-reads-as

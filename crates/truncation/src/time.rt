@@ -57,17 +57,43 @@ fn less_remainder(value: i64, length: i64) -> i64
     value - value % length
 }
 
+// A value of 64 bits, or none.
+fn truncate_time_64(
+    granularity: Granularity,
+    unit: TimeUnit,
+    value: Option<i64>,
+) -> Result<Option<i64>, Fault>
+    ensures { λ r. ⌜ TruncatedTime granularity unit value r ⌝ }
+{
+    let length = length_in(granularity, unit)?;
+    match value {
+        None => Ok(None),
+        Some(value) => Ok(Some(less_remainder(value, length))),
+    }
+}
+
+// A value of 32 bits, or none.
+fn truncate_time_32(
+    granularity: Granularity,
+    unit: TimeUnit,
+    value: Option<i32>,
+) -> Result<Option<i32>, Fault>
+    ensures { λ r. ⌜ TruncatedTime granularity unit value r ⌝ }
+{
+    let length = length_in(granularity, unit)?;
+    match value {
+        None => Ok(None),
+        Some(value) => Ok(Some(less_remainder(i64::from(value), length) as i32)),
+    }
+}
+
 pub fn truncate_time_nanos(
     granularity: Granularity,
     value: Option<i64>,
 ) -> Result<Option<i64>, Fault>
     ensures { λ r. ⌜ TruncatedTime granularity Nanosecond value r ⌝ }
 {
-    let length = length_in(granularity, TimeUnit::Nanosecond)?;
-    match value {
-        None => Ok(None),
-        Some(value) => Ok(Some(less_remainder(value, length))),
-    }
+    truncate_time_64(granularity, TimeUnit::Nanosecond, value)
 }
 
 pub fn truncate_time_micros(
@@ -76,11 +102,7 @@ pub fn truncate_time_micros(
 ) -> Result<Option<i64>, Fault>
     ensures { λ r. ⌜ TruncatedTime granularity Microsecond value r ⌝ }
 {
-    let length = length_in(granularity, TimeUnit::Microsecond)?;
-    match value {
-        None => Ok(None),
-        Some(value) => Ok(Some(less_remainder(value, length))),
-    }
+    truncate_time_64(granularity, TimeUnit::Microsecond, value)
 }
 
 pub fn truncate_time_millis(
@@ -89,11 +111,7 @@ pub fn truncate_time_millis(
 ) -> Result<Option<i32>, Fault>
     ensures { λ r. ⌜ TruncatedTime granularity Millisecond value r ⌝ }
 {
-    let length = length_in(granularity, TimeUnit::Millisecond)?;
-    match value {
-        None => Ok(None),
-        Some(value) => Ok(Some(less_remainder(i64::from(value), length) as i32)),
-    }
+    truncate_time_32(granularity, TimeUnit::Millisecond, value)
 }
 
 pub fn truncate_time_secs(
@@ -102,11 +120,7 @@ pub fn truncate_time_secs(
 ) -> Result<Option<i32>, Fault>
     ensures { λ r. ⌜ TruncatedTime granularity Second value r ⌝ }
 {
-    let length = length_in(granularity, TimeUnit::Second)?;
-    match value {
-        None => Ok(None),
-        Some(value) => Ok(Some(less_remainder(i64::from(value), length) as i32)),
-    }
+    truncate_time_32(granularity, TimeUnit::Second, value)
 }
 
 // The answers of truncation around zero and at the least value of each width, whose proofs the check asks for here.

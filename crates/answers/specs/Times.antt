@@ -1,6 +1,9 @@
 -- A time of day by its unit and its value.
 use lib.IntN.{ℤ}
+use mir.Syntax.{w32}
+use mir.Val.{SFits}
 use Rattle.std.specs.declared.option.Option.{Option}
+use Rattle.std.specs.declared.option.Option.the-variants.{Some, None}
 use Rattle.truncation.specs.declared.unit.TimeUnit.{TimeUnit}
 use Rattle.truncation.specs.declared.unit.TimeUnit.the-variants.{Second, Millisecond, Microsecond, Nanosecond}
 use Rattle.answers.specs.declared.times.Time.{Time}
@@ -17,3 +20,15 @@ valueOf (Seconds v) = v
 valueOf (Millis v) = v
 valueOf (Micros v) = v
 valueOf (Nanos v) = v
+
+-- a value of 32 bits, or none
+abbrev pub Narrow : Option ℤ → Type 0
+Narrow None = Unit {0}
+Narrow (Some v) = SFits w32 v
+
+-- a unit's time of day can have the value
+abbrev pub Holds : TimeUnit → Option ℤ → Type 0
+Holds Second v = Narrow v
+Holds Millisecond v = Narrow v
+Holds Microsecond v = Unit {0}
+Holds Nanosecond v = Unit {0}

@@ -2,7 +2,7 @@
 ghost use mathlib.Core.Path.{_≡_};
 ghost use Rattle.std.specs.Results.{Cases};
 ghost use Rattle.truncation.specs.Times.{TruncatedTime};
-ghost use Rattle.answers.specs.Times.{unitOf, valueOf};
+ghost use Rattle.answers.specs.Times.{Holds, Narrow, unitOf, valueOf};
 use crate::answer::Answer;
 use crate::refusal::Refusal;
 use crate::refusal::RefusalFromFault;
@@ -27,7 +27,7 @@ enum Time {
 
 // A value of 32 bits.
 fn narrow(value: Option<i64>) -> Result<Option<i32>, Refusal>
-    ensures { λ r. ⌜ Cases r (λ same. same ≡ value) (λ _. Unit {0}) ⌝ }
+    ensures { λ r. ⌜ Cases r (λ same. same ≡ value) (λ _. Narrow value → ⊥) ⌝ }
 {
     match value {
         None => Ok(None),
@@ -49,7 +49,7 @@ fn wide(value: Option<i32>) -> Option<i64>
 
 impl Time {
     fn of(unit: TimeUnit, value: Option<i64>) -> Result<Time, Refusal>
-        ensures { λ r. ⌜ Cases r (λ time. (unitOf time ≡ unit) × (valueOf time ≡ value)) (λ _. Unit {0}) ⌝ }
+        ensures { λ r. ⌜ Cases r (λ time. (unitOf time ≡ unit) × (valueOf time ≡ value)) (λ _. Holds unit value → ⊥) ⌝ }
     {
         match unit {
             TimeUnit::Second => Ok(Time::Seconds(narrow(value)?)),

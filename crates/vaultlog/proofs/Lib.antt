@@ -1,0 +1,4 @@
+mod Filed
+mod Numbers
+mod Spelt
+mod Wholes

@@ -3,9 +3,9 @@ use mathlib.Core.Logic.{_⊎_, inl, inr}
 use mathlib.Core.Path.{_≡_, refl, sym, ap, _∙_}
 use Prim.Native.Nat.{ℕ, zero, suc, _+_, _-_, _*_, _/_, _<_}
 use native.Mathlib.Omega.{arith}
-use borrow.Author.Differences.{up, down}
+use borrow.Author.Differences.{ints, up, down}
 use lib.Arith.{digits-div}
-use lib.IntN.{ℤ, pos, negsuc, predℤ, sucℤ, natAbs}
+use lib.IntN.{ℤ, pos, negsuc, predℤ, sucℤ, natAbs, _*ℤ_}
 use Rattle.std.proofs.shelf.Tests.{cases-eq}
 use Rattle.std.specs.Numbers.{divEuclid, remEuclid}
 
@@ -64,3 +64,7 @@ floor-step z k h =
       | inl e ↦ inl (e .0, omega arith)
       | inr e ↦ inr (e .0, omega arith)
     ]
+
+-- a product by a natural, for `omega`
+pub times : (k : ℕ) (z : ℤ) → up (pos k *ℤ z) + k * down z ≡ down (pos k *ℤ z) + k * up z
+times k z = omega (arith, ints)

@@ -6,13 +6,9 @@ use native.Mathlib.Omega.{arith}
 use borrow.Author.Differences.{ints, up, down}
 use lib.IntN.{ℤ, pos, _*ℤ_}
 use lib.Signed.{_≤ℤ_}
-use Rattle.arith.proofs.Floors.{rem, quot, floor-is}
+use Rattle.arith.proofs.Floors.{rem, quot, floor-is, times}
 use Rattle.arith.proofs.Multiples.{apart}
 use Rattle.arith.specs.Greatest.{GreatestNotAfter, TimesOne, Every, MultipleOf}
-
--- a product by a natural, for `omega`
-pub times : (k : ℕ) (z : ℤ) → up (pos k *ℤ z) + k * down z ≡ down (pos k *ℤ z) + k * up z
-times k z = omega (arith, ints)
 
 scaled : (k : ℕ) (x y : ℤ) → x ≤ℤ y → (pos k *ℤ x) ≤ℤ (pos k *ℤ y)
 scaled k x y h =

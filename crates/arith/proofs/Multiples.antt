@@ -5,10 +5,10 @@ use Prim.Native.Nat.{ℕ, _+_, _-_, _*_, _≤_, _<_}
 use native.Mathlib.Nat.{mul-le-mul-left}
 use native.Mathlib.Omega.{arith}
 use borrow.Author.Differences.{ints, up, down}
-use lib.IntN.{ℤ, pos, _+ℤ_}
+use lib.IntN.{ℤ, pos, _+ℤ_, _*ℤ_, *ℤ-comm}
 use lib.Signed.{_≤ℤ_}
 use Rattle.std.proofs.shelf.Tests.{cases-lt}
-use Rattle.arith.proofs.Floors.{rem, quot, floor-is, same-quotient}
+use Rattle.arith.proofs.Floors.{rem, quot, floor-is, same-quotient, times}
 use Rattle.arith.specs.Greatest.{GreatestNotAfter}
 
 -- z is k times q, and a remainder below k: then q is its quotient
@@ -18,6 +18,14 @@ floor-unique z q k r h e =
     let s = same-quotient k (up (quot z k) + down q) (up q + down (quot z k)) (rem z k) r (f .1) h (omega (arith, f .0)) in
     let m : (up (quot z k) + down q) * k ≡ (up q + down (quot z k)) * k = ap (λ (n : ℕ). n * k) s in
     (omega (arith, ints), omega (arith, f .0))
+
+-- so many times k, divided by k
+pub whole-quotient : (k : ℕ) (t v : ℤ) → 0 < k → v *ℤ pos k ≡ t → quot t k ≡ v
+whole-quotient k t v h e = floor-unique t v k 0 h (omega (arith, ints, times k v, *ℤ-comm v (pos k))) .0
+
+-- what is divided without a remainder is so many times k
+pub no-remainder : (k : ℕ) (t : ℤ) → 0 < k → rem t k ≡ 0 → quot t k *ℤ pos k ≡ t
+no-remainder k t h e = let f = floor-is t k h in omega (arith, ints, f .0, times k (quot t k), *ℤ-comm (quot t k) (pos k))
 
 -- multiples of k are k apart
 pub apart : (k x y r : ℕ) → r < k → k * x ≤ k * y + r → x ≤ y

@@ -7,7 +7,7 @@ use native.Mathlib.Omega.{arith}
 use lib.Dec.{eqb}
 use lib.ListN.{getD, length, take, drop}
 use Rattle.std.proofs.shelf.Lists.{take-all, length-drop, length-append}
-use Rattle.std.proofs.shelf.Tests.{cond-false, eq-eqb, ne-eqb, and-right}
+use Rattle.std.proofs.shelf.Tests.{cond-false, and-right}
 use Rattle.std.specs.Text.{lower}
 use Rattle.truncation.specs.Names.{folded, foldedPast, kelvin}
 
@@ -34,16 +34,7 @@ unfolding foldedPast
 plain-front [] h k = absurd (omega arith)
 plain-front (x ∷ xs) h k = rw (rest-all 1 (x ∷ xs)) (cond-false (kelvin (x ∷ xs)) (107 ∷ foldedPast 2 xs) (lower x ∷ foldedPast 0 xs) k)
 
--- no sign in front
-pub not-first : (xs : List ℕ) → (getD xs 0 0 ≡ 226 → ⊥) → kelvin xs ≡ false
-not-first xs n = rw (ne-eqb (getD xs 0 0) 226 n) refl
-
-pub not-second : (xs : List ℕ) → getD xs 0 0 ≡ 226 → (getD xs 1 0 ≡ 132 → ⊥) → kelvin xs ≡ false
-not-second xs a n = rw (eq-eqb (getD xs 0 0) 226 a, ne-eqb (getD xs 1 0) 132 n) refl
-
-pub not-third : (xs : List ℕ) → getD xs 0 0 ≡ 226 → getD xs 1 0 ≡ 132 → (getD xs 2 0 ≡ 170 → ⊥) → kelvin xs ≡ false
-not-third xs a b n = rw (eq-eqb (getD xs 0 0) 226 a, eq-eqb (getD xs 1 0) 132 b, ne-eqb (getD xs 2 0) 170 n) refl
-
+-- no sign fits in front
 pub too-short : (xs : List ℕ) → length xs < 3 → kelvin xs ≡ false
 too-short [] h = refl
 too-short (x ∷ []) h = and-right (eqb x 226) _ refl

@@ -8,8 +8,8 @@ use lib.IntN.{ℤ, pos, negsuc, negℤ, _-ℤ_}
 use lib.Signed.{_≤ℤ_, remZ}
 use mir.Syntax.{w64}
 use mir.Val.{SFits, toZ, ofZ}
-use Rattle.arith.proofs.Floors.{quot, floor-is}
-use Rattle.arith.proofs.Lift.{greatest-whole, times}
+use Rattle.arith.proofs.Floors.{quot, floor-is, times}
+use Rattle.arith.proofs.Lift.{greatest-whole}
 use Rattle.arith.specs.Greatest.{GreatestNotAfter, MultipleOf}
 use Rattle.truncation.specs.Times.{TowardZero}
 

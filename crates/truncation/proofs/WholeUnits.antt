@@ -6,10 +6,10 @@ use lib.Dec.{lit<}
 use lib.IntN.{ℤ, pos, _*ℤ_}
 use Rattle.std.proofs.shelf.Signed.{ints}
 use Rattle.std.specs.Numbers.{divEuclid}
-use Rattle.arith.proofs.Multiples.{floor-unique}
+use Rattle.arith.proofs.Multiples.{whole-quotient}
 use Rattle.arith.specs.Greatest.{GreatestNotAfter}
 use Rattle.truncation.specs.Boundaries.{Boundary}
-use Rattle.truncation.specs.Units.{InUnits, scaleOf}
+use Rattle.truncation.specs.Units.{InUnits, scale, scaleOf}
 use Rattle.truncation.specs.declared.granularity.Granularity.{Granularity}
 use Rattle.truncation.specs.declared.granularity.Granularity.the-variants.{Microsecond, Millisecond, Second, Minute, Hour, Day, Week, Month, Quarter, Year}
 use Rattle.truncation.specs.declared.unit.TimeUnit.{TimeUnit}
@@ -44,9 +44,12 @@ in-units u Year m t b e f = let i = f .isOne .product in whole-seconds u b (pos 
 pub whole-units : (u : TimeUnit) (g : Granularity) (t b : ℤ) → InUnits u t → GreatestNotAfter (Boundary g) t b → InUnits u b
 whole-units u g t b w f = in-units u g (w .0) t b (w .1) f
 
+pub some-scale : (u : TimeUnit) → 0 < scale u
+some-scale Seconds = lit< tt
+some-scale Milliseconds = lit< tt
+some-scale Microseconds = lit< tt
+some-scale Nanoseconds = lit< tt
+
 -- and divides back
 pub divides-back : (u : TimeUnit) (b : ℤ) → InUnits u b → divEuclid b (scaleOf u) *ℤ scaleOf u ≡ b
-divides-back Seconds b p = let e = p .1 in ap (λ z. z *ℤ pos 1_000_000_000) (floor-unique b (p .0) 1_000_000_000 0 (lit< tt) (omega (arith, ints)) .0) ∙ sym e
-divides-back Milliseconds b p = let e = p .1 in ap (λ z. z *ℤ pos 1_000_000) (floor-unique b (p .0) 1_000_000 0 (lit< tt) (omega (arith, ints)) .0) ∙ sym e
-divides-back Microseconds b p = let e = p .1 in ap (λ z. z *ℤ pos 1_000) (floor-unique b (p .0) 1_000 0 (lit< tt) (omega (arith, ints)) .0) ∙ sym e
-divides-back Nanoseconds b p = let e = p .1 in ap (λ z. z *ℤ pos 1) (floor-unique b (p .0) 1 0 (lit< tt) (omega (arith, ints)) .0) ∙ sym e
+divides-back u b (n, e) = ap (λ z. z *ℤ scaleOf u) (whole-quotient (scale u) b n (some-scale u) (sym e)) ∙ sym e

@@ -1,4 +1,3 @@
 mod Filed
 mod Numbers
 mod Spelt
-mod Wholes

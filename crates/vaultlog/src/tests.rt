@@ -65,66 +65,35 @@ fn reads_arguments(rt: LibcRuntime) -> Result<(), Fail> {
     Ok(())
 }
 
+const S: TimeUnit = TimeUnit::Second;
+
+const MS: TimeUnit = TimeUnit::Millisecond;
+
+const NS: TimeUnit = TimeUnit::Nanosecond;
+
 #[test]
 fn reads_rows() -> Result<(), Fail> {
     let no_date = NotRead::NoSuchDate(Fault::found(Cause::OutsideSpan, Layer::Calendar));
+    let half = "2000-02-29T06:00:00.5Z";
+    let last = "2262-04-11T23:47:16.854775807Z";
+    let past = "2262-04-11T23:47:16.854775808Z";
     let cases = [
-        (TimeUnit::Second, "-", Ok(Row::Empty)),
-        (TimeUnit::Second, "-14182940", Ok(Row::Value(-14_182_940))),
-        (
-            TimeUnit::Second,
-            "9223372036854775807",
-            Ok(Row::Value(i64::MAX)),
-        ),
-        (
-            TimeUnit::Second,
-            "9223372036854775808",
-            Err(NotRead::NumberTooBig),
-        ),
-        (
-            TimeUnit::Second,
-            "2024-02-29",
-            Ok(Row::Value(1_709_164_800)),
-        ),
-        (
-            TimeUnit::Second,
-            "1969-07-20T20:17:40Z",
-            Ok(Row::Value(-14_182_940)),
-        ),
-        (
-            TimeUnit::Millisecond,
-            "2000-02-29T06:00:00.5Z",
-            Ok(Row::Value(951_804_000_500)),
-        ),
-        (
-            TimeUnit::Second,
-            "2000-02-29T06:00:00.5Z",
-            Err(NotRead::FinerThanUnit),
-        ),
-        (
-            TimeUnit::Nanosecond,
-            "2262-04-11T23:47:16.854775807Z",
-            Ok(Row::Value(i64::MAX)),
-        ),
-        (
-            TimeUnit::Nanosecond,
-            "2262-04-11T23:47:16.854775808Z",
-            Err(NotRead::OutsideUnit),
-        ),
-        (TimeUnit::Second, "2023-02-29", Err(no_date)),
-        (TimeUnit::Second, "0000-01-01", Err(no_date)),
-        (
-            TimeUnit::Second,
-            "2024-02-29T24:00Z",
-            Err(NotRead::NoSuchTime),
-        ),
-        (TimeUnit::Second, "2024-02-29T12:34", Err(NotRead::NoRow)),
-        (
-            TimeUnit::Second,
-            "2024-02-29T12:34:56.Z",
-            Err(NotRead::NoRow),
-        ),
-        (TimeUnit::Second, "", Err(NotRead::NoRow)),
+        (S, "-", Ok(Row::Empty)),
+        (S, "-14182940", Ok(Row::Value(-14_182_940))),
+        (S, "9223372036854775807", Ok(Row::Value(i64::MAX))),
+        (S, "9223372036854775808", Err(NotRead::NumberTooBig)),
+        (S, "2024-02-29", Ok(Row::Value(1_709_164_800))),
+        (S, "1969-07-20T20:17:40Z", Ok(Row::Value(-14_182_940))),
+        (MS, half, Ok(Row::Value(951_804_000_500))),
+        (S, half, Err(NotRead::FinerThanUnit)),
+        (NS, last, Ok(Row::Value(i64::MAX))),
+        (NS, past, Err(NotRead::OutsideUnit)),
+        (S, "2023-02-29", Err(no_date)),
+        (S, "0000-01-01", Err(no_date)),
+        (S, "2024-02-29T24:00Z", Err(NotRead::NoSuchTime)),
+        (S, "2024-02-29T12:34", Err(NotRead::NoRow)),
+        (S, "2024-02-29T12:34:56.Z", Err(NotRead::NoRow)),
+        (S, "", Err(NotRead::NoRow)),
     ];
     for (unit, text, want) in cases {
         check_eq(read_row(unit, text), want).note(text)?;

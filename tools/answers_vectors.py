@@ -321,7 +321,7 @@ def dates():
         "2147483648 1 1", "4294967298 1 1", "2024 4294967297 1", "2024 1 4294967297", "-9223372036854775808 9223372036854775807 0",
     ):
         yield f"days {parts}"
-    # Hinnant's paper: an era is the 400 years, or 146,097 days, from a 1 March; the months of a year that begins in March.
+    # What Hinnant's algorithms count by: eras of 400 years, 146,097 days, from a 1 March, and the months of a year that begins in March.
     for era in range(1, 7):
         yield f"civil {era * 146_097 - 719_468 - 1}"
         yield f"civil {era * 146_097 - 719_468}"

@@ -36,6 +36,6 @@ pub record Holds (p : Parts) (t : DateTime) : Type 0 where
 abbrev pub NoDateTime : Parts → NotRead → Type 0
 NoDateTime p e = ((HasDate p → ⊥) × (e ≡ NoSuchDate outsideCalendar)) ⊎ ((IsTime (p .time) → ⊥) × (e ≡ NoSuchTime))
 
--- why an instant is no number of 64 bits in the unit
+-- why an instant is no number of 64 bits in the unit: it is no whole number of units, or a number beyond 64 bits
 abbrev pub NotInUnit : TimeUnit → ℤ → NotRead → Type 0
-NotInUnit u t e = (((v : ℤ) → nanos u v ≡ t → ⊥) × (e ≡ FinerThanUnit)) ⊎ (((v : ℤ) → nanos u v ≡ t → SFits w64 v → ⊥) × (e ≡ OutsideUnit))
+NotInUnit u t e = (((v : ℤ) → nanos u v ≡ t → ⊥) × (e ≡ FinerThanUnit)) ⊎ (((v : ℤ) × ((nanos u v ≡ t) × (SFits w64 v → ⊥))) × (e ≡ OutsideUnit))

@@ -7,7 +7,7 @@ use mir.Val.{SFits, toZ}
 use Rattle.std.proofs.shelf.Signed.{toZ-ofZ}
 use Rattle.std.specs.Numbers.{divEuclid, remEuclid}
 use Rattle.calendar.specs.DateTimes.{instantOf}
-use Rattle.arith.proofs.Multiples.{whole-quotient, no-remainder}
+use Rattle.arith.proofs.Multiples.{no-remainder}
 use Rattle.truncation.proofs.WholeUnits.{some-scale}
 use Rattle.truncation.specs.Units.{nanos, scale, scaleOf}
 use Rattle.vaultlog.proofs.instant.in_unit.Needs as need
@@ -23,27 +23,31 @@ quotient c =
     let instant = c .timestamp-nanos-instant .ensures in
     simp toZ-ofZ at (c .div-euclid .ensures) ∙ (λ i. divEuclid (instant i) (units i))
 
-pub returns-in-Ok : need.returns-in-Ok
-returns-in-Ok c =
+-- with no remainder, the instant is so many units
+whole : (c : After-div-euclid) → nanos (c .args .unit) (divEuclid (instantOf (c .args .at)) (scaleOf (c .args .unit))) ≡ instantOf (c .args .at)
+whole c =
     let u = c .args .unit in
     let fi : SFits w128 (c .timestamp-nanos-instant .result) = search needs in
     let fs : SFits w128 (c .from-scale .result) = search needs in
     let fu : SFits w64 (c .scale .result) = search needs in
-    let fd : SFits w128 (c .div-euclid .result) = search needs in
-    let fv : SFits w64 (c .in-Ok .value) = search needs in
     let units = simp toZ-ofZ at (c .from-scale .ensures) ∙ c .scale .ensures .value in
     let instant = c .timestamp-nanos-instant .ensures in
     let rest = simp toZ-ofZ at (c .rem-euclid .ensures .value) ∙ (λ i. remEuclid (instant i) (units i)) in
-    let v : c .in-Ok .value ≡ c .div-euclid .result = simp toZ-ofZ at (c .in-Ok .ensures tt .1) in
-    let q = quotient (need.at·returns-in-Ok c .After-div-euclid) in
     let fr : SFits w128 (c .rem-euclid .result) = search needs in
     let none : c .rem-euclid .result ≡ pos 0 = sym (toZ-ofZ w128 (c .rem-euclid .result) fr) ∙ ap (toZ w128) (c .if-rem-euclid-ne0 .left) in
-    simp toZ-ofZ (ap (nanos (c .args .unit)) (v ∙ q) ∙ no-remainder (scale u) (instantOf (c .args .at)) (some-scale u) (ap natAbs (sym rest ∙ none)))
+    no-remainder (scale u) (instantOf (c .args .at)) (some-scale u) (ap natAbs (sym rest ∙ none))
+
+pub returns-in-Ok : need.returns-in-Ok
+returns-in-Ok c =
+    let fd : SFits w128 (c .div-euclid .result) = search needs in
+    let fv : SFits w64 (c .in-Ok .value) = search needs in
+    let v : c .in-Ok .value ≡ c .div-euclid .result = simp toZ-ofZ at (c .in-Ok .ensures tt .1) in
+    let q = quotient (need.at·returns-in-Ok c .After-div-euclid) in
+    simp toZ-ofZ (ap (nanos (c .args .unit)) (v ∙ q) ∙ whole (need.at·returns-in-Ok c .After-div-euclid))
 
 pub returns-in-Err : need.returns-in-Err
 returns-in-Err c =
-    let u = c .args .unit in
     let fd : SFits w128 (c .div-euclid .result) = search needs in
     let n = simp toZ-ofZ at (c .in-Err .ensures tt) in
     let q = quotient (need.at·returns-in-Err c .After-div-euclid) in
-    inr ((λ v e f. n (subst (SFits w64) (sym (q ∙ whole-quotient (scale u) (instantOf (c .args .at)) v (some-scale u) e)) f)), refl)
+    inr ((_, (whole (need.at·returns-in-Err c .After-div-euclid), λ f. n (subst (SFits w64) (sym q) f))), refl)

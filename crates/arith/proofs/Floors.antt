@@ -1,5 +1,5 @@
 -- Quotients rounded down and remainders of integers by a positive number, in the form that `omega` reads: an integer z is `up z - down z`.
-use Rattle.std.proofs.Common.{◌≡◌, ℕ, zero, suc, ◌+◌, ◌-◌, ◌*◌, ◌/◌, ◌<◌, ◌⊎◌, ℤ, pos, negsuc, ◌*ℤ◌, nat_abs, sym, refl, ap, ◌∙◌, inl, inr, arith}
+use Rattle.std.proofs.Common.{◌≡◌, ℕ, zero, suc, ◌+◌, ◌*◌, ◌/◌, ◌<◌, ◌⊎◌, ℤ, pos, negsuc, ◌*ℤ◌, nat_abs, sym, refl, ap, ◌∙◌, inl, inr, arith}
 use borrow.Author.Differences.{ints, up, down}
 use lib.Arith.{digits_div}
 use lib.IntN.{pred_ℤ, suc_ℤ}

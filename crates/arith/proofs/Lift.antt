@@ -1,5 +1,5 @@
 -- The greatest of some numbers, times a length: from days to seconds, and from seconds to instants.
-use Rattle.std.proofs.Common.{◌≡◌, ℕ, ◌+◌, ◌-◌, ◌*◌, ◌<◌, ◌≤◌, ℤ, pos, ◌*ℤ◌, ◌≤ℤ◌, sym, refl, subst, mul-le-mul_left, arith}
+use Rattle.std.proofs.Common.{◌≡◌, ℕ, ◌+◌, ◌<◌, ◌≤◌, ℤ, pos, ◌*ℤ◌, ◌≤ℤ◌, sym, refl, subst, mul-le-mul_left, arith}
 use borrow.Author.Differences.{ints, up, down}
 use Rattle.arith.proofs.Floors.{rem, quot, floor_is, times}
 use Rattle.arith.proofs.Multiples.{apart}

@@ -1,5 +1,5 @@
 -- Years that begin on 1 March, counted from 0000-03-01, and the year of a day of an era of 400 such years.
-use Rattle.std.proofs.Common.{◌≡◌, ℕ, zero, suc, ◌+◌, ◌-◌, ◌*◌, ◌/◌, ◌%◌, ◌<◌, ◌≤◌, Bool, true, false, T, eqb, ℤ, pos, ◌+ℤ◌, refl, inl, inr, add-zero, add_assoc, add-one, arith, eqb→eq}
+use Rattle.std.proofs.Common.{◌≡◌, ℕ, zero, suc, ◌+◌, ◌-◌, ◌*◌, ◌/◌, ◌%◌, ◌<◌, ◌≤◌, Bool, true, false, T, eqb, pos, ◌+ℤ◌, refl, inl, inr, add-zero, add_assoc, add-one, arith, eqb→eq}
 use native.Mathlib.Nat.{div-div-eq-div-mul}
 use borrow.Author.Differences.{ints}
 use Rattle.std.proofs.lemmas.Bool.{cases_lt}

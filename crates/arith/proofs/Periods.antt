@@ -1,5 +1,5 @@
 -- The first day of the month, quarter or year that holds a date is the greatest such day not after it.
-use Rattle.std.proofs.Common.{◌≡◌, ℕ, ◌+◌, ◌-◌, ◌*◌, ◌/◌, ◌%◌, ◌<◌, ◌≤◌, ℤ, ◌≤ℤ◌, ◌<ℤ◌, refl, ap₂, inl, inr, mul-le-mul_left, div-add-mod', arith}
+use Rattle.std.proofs.Common.{◌≡◌, ℕ, ◌+◌, ◌-◌, ◌*◌, ◌/◌, ◌%◌, ◌<◌, ◌≤◌, ℤ, ◌≤ℤ◌, refl, ap₂, inl, inr, mul-le-mul_left, div-add-mod', arith}
 use borrow.Author.Differences.{ints}
 use lib.Arith.{digits_mod}
 use lib.Signed.{<ℤ_irrefl}

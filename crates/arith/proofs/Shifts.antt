@@ -1,5 +1,5 @@
 -- The date of a month's index.
-use Rattle.std.proofs.Common.{◌≡◌, ℕ, ◌+◌, ◌-◌, ◌/◌, ◌%◌, min, ℤ, pos, ◌+ℤ◌, refl, arith}
+use Rattle.std.proofs.Common.{◌≡◌, ℕ, ◌+◌, ◌/◌, ◌%◌, min, ℤ, pos, ◌+ℤ◌, refl, arith}
 use borrow.Author.Differences.{ints}
 use Rattle.arith.specs.Gregorian.{leap, month_length}
 use Rattle.arith.specs.Shift.{month_index, Shifted}

@@ -1,5 +1,5 @@
 -- The days of the week follow one another.
-use Rattle.std.proofs.Common.{◌+◌, ℤ, pos, ◌+ℤ◌, refl, arith, lit<}
+use Rattle.std.proofs.Common.{pos, ◌+ℤ◌, refl, arith, lit<}
 use borrow.Author.Differences.{ints}
 use lib.IntN.{suc_ℤ}
 use Rattle.arith.proofs.Floors.{floor_is, suc_is}

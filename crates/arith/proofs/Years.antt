@@ -1,10 +1,10 @@
 -- Leap years and the starts of years, by floors.
-use Rattle.std.proofs.Common.{◌≡◌, ℕ, zero, suc, ◌+◌, ◌-◌, ◌*◌, ◌<◌, Bool, true, false, cond, eqb, ◌⊎◌, ℤ, pos, negsuc, ◌+ℤ◌, refl, inl, inr, arith, lit<}
+use Rattle.std.proofs.Common.{◌≡◌, ℕ, zero, suc, ◌+◌, ◌*◌, ◌<◌, Bool, true, false, cond, eqb, ◌⊎◌, ℤ, pos, negsuc, ◌+ℤ◌, refl, inl, inr, arith, lit<}
 use borrow.Author.Differences.{ints, up, down}
 use lib.IntN.{pred_ℤ, suc_ℤ, pred-suc}
 use Rattle.std.proofs.lemmas.Bool.{cases_eq, eq-eqb, ne_eqb}
 use Rattle.arith.proofs.Floors.{rem, floor_step, pred_is}
-use Rattle.arith.specs.Gregorian.{multiple, leap, floor_div, days_in_years, year_start, year_length}
+use Rattle.arith.specs.Gregorian.{leap, floor_div, days_in_years, year_start, year_length}
 
 -- what a leap year is, by remainders
 abbrev pub LeapBy : ℕ → ℕ → ℕ → Bool → Type 0

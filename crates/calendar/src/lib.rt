@@ -1,4 +1,6 @@
 // The proleptic Gregorian calendar of ISO 8601, for the years 1 to 9999. Day 0 is 1970-01-01, a Thursday. And the faults of all layers.
+#![tactic(auto)]
+
 mod boundary;
 mod civil;
 mod date;

@@ -1,5 +1,5 @@
 -- The worked readings at a change of the clock, by where the boundary of each reading stands.
-use Rattle.std.proofs.Common.{◌≡◌, zero, suc, ◌<◌, [], ◌∷◌, ℤ, pos, ◌+ℤ◌, ◌-ℤ◌, ◌*ℤ◌, neg_ℤ, ◌≤ℤ◌, ◌<ℤ◌, refl, arith, lit<}
+use Rattle.std.proofs.Common.{◌≡◌, zero, suc, [], ◌∷◌, ℤ, pos, ◌+ℤ◌, ◌-ℤ◌, ◌*ℤ◌, neg_ℤ, ◌≤ℤ◌, ◌<ℤ◌, refl, arith, lit<}
 use lib.Signed.{le_z_yes, lt_z_yes}
 use Rattle.std.proofs.lemmas.Int.{ints}
 use Rattle.arith.proofs.Lift.{lift, greatest_whole}

@@ -1,5 +1,5 @@
 -- Values less their remainder toward zero.
-use Rattle.std.proofs.Common.{◌≡◌, ℕ, zero, suc, ◌-◌, ◌%◌, ◌<◌, ◌≤◌, ◌⊎◌, ℤ, pos, negsuc, ◌-ℤ◌, neg_ℤ, ◌≤ℤ◌, inl, inr, arith, w64, SFits, to_z, of_z}
+use Rattle.std.proofs.Common.{◌≡◌, ℕ, zero, suc, ◌%◌, ◌<◌, ◌⊎◌, ℤ, pos, negsuc, ◌-ℤ◌, neg_ℤ, ◌≤ℤ◌, inl, inr, arith, w64, SFits, to_z, of_z}
 use borrow.Author.Differences.{ints}
 use lib.Signed.{rem_z}
 use Rattle.arith.proofs.Floors.{quot, floor_is, times}

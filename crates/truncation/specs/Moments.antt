@@ -28,9 +28,9 @@ OfRange s = (neg_ℤ (pos 9_223_372_037) ≤ℤ s) × (s ≤ℤ pos 9_223_372_03
 abbrev pub Near : ℤ → Type 0
 Near s = (neg_ℤ (pos 9_223_460_000) ≤ℤ s) × (s ≤ℤ pos 9_223_460_000)
 
--- days near enough
-abbrev pub NearDay : ℤ → Type 0
-NearDay d = (neg_ℤ (pos 107_019) ≤ℤ d) × (d ≤ℤ pos 107_019)
+-- days whose seconds are numbers of 64 bits by far
+abbrev pub InReach : ℤ → Type 0
+InReach d = (neg_ℤ (pos 1_000_000) ≤ℤ d) × (d ≤ℤ pos 1_000_000)
 
 -- the second of a boundary that stands at a place: of two, the first if that is x, else the second
 abbrev pub Chosen : ℤ → Place → ℤ → Type 0

@@ -42,17 +42,14 @@ CutOn offset u g t (Ok r) = Fits (nanos u r) × OnlyOne (OnClock offset g t) (na
 CutOn offset u g t (Err e) = OutsideOn offset g t e
 
 -- a value that scales is cut, and one that does not is refused
-abbrev pub OfScaled : TimeUnit → (ℤ → Result ℤ Fault → Type 0) → ℤ → Result ℤ Fault → Type 0
-OfScaled u C v (Ok r) = Fits (nanos u v) × C (nanos u v) (Ok r)
-OfScaled u C v (Err e) = Unscaled u v e ⊎ (Fits (nanos u v) × C (nanos u v) (Err e))
-
--- without a zone
 abbrev pub Truncated : TimeUnit → Granularity → ℤ → Result ℤ Fault → Type 0
-Truncated u g v r = OfScaled u (Cut u g) v r
+Truncated u g v (Ok r) = Fits (nanos u v) × Cut u g (nanos u v) (Ok r)
+Truncated u g v (Err e) = Unscaled u v e ⊎ (Fits (nanos u v) × Cut u g (nanos u v) (Err e))
 
--- in a zone with these offsets
+-- and so in a zone with these offsets
 abbrev pub TruncatedIn : (ℤ → ℤ) → TimeUnit → Granularity → ℤ → Result ℤ Fault → Type 0
-TruncatedIn offset u g v r = OfScaled u (CutOn offset u g) v r
+TruncatedIn offset u g v (Ok r) = Fits (nanos u v) × CutOn offset u g (nanos u v) (Ok r)
+TruncatedIn offset u g v (Err e) = Unscaled u v e ⊎ (Fits (nanos u v) × CutOn offset u g (nanos u v) (Err e))
 
 -- an empty value stays empty
 abbrev pub EachFilled : (ℤ → Result ℤ Fault → Type 0) → Option ℤ → Result (Option ℤ) Fault → Type 0

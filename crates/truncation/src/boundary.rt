@@ -3,7 +3,7 @@ ghost use Rattle.std.specs.Prelude.{◌≡◌, pos, ◌*ℤ◌, MatchResult};
 ghost use Rattle.arith.specs.Greatest.{GreatestNotAfter};
 ghost use Rattle.calendar.specs.Spans.{FirstDayOf};
 ghost use Rattle.truncation.specs.Boundaries.{Boundary, MidnightOf};
-ghost use Rattle.truncation.specs.Moments.{nanos_of, Near, NearDay};
+ghost use Rattle.truncation.specs.Moments.{nanos_of, InReach, Near};
 
 use crate::granularity::Granularity;
 use crate::moment::Moment;
@@ -11,7 +11,7 @@ use calendar::{Fault, Period, period_start};
 
 // The first moment of a day.
 fn midnight(day: i64) -> Moment
-    requires { NearDay day }
+    requires { InReach day }
     ensures { nanos_of result ≡ pos 86400000000000 *ℤ day }
 {
     Moment {

@@ -1,4 +1,6 @@
 // Timestamps, alone or on the clock of a zone, and times of day cut to the first instant of their second, day, month or the like.
+#![tactic(auto)]
+
 mod boundary;
 mod date_trunc;
 mod granularity;

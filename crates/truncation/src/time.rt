@@ -1,5 +1,6 @@
 // Times of day: seconds and milliseconds of 32 bits, microseconds and nanoseconds of 64.
 ghost use Rattle.std.specs.Prelude.{◌≡◌, ◌⊎◌, pos, ◌≤ℤ◌, ◌<ℤ◌, unsigned_abs};
+ghost use Rattle.truncation.specs.Readings.{LeastTimes, TimesAroundZero};
 ghost use Rattle.truncation.specs.Times.{TowardZero, TruncatedTime, length_answer, units_in};
 ghost use Rattle.truncation.specs.declared.unit.TimeUnit.TheVariants.{Second, Millisecond, Microsecond, Nanosecond};
 
@@ -117,3 +118,9 @@ pub fn truncate_time_secs(
 {
     truncate_time_32(granularity, TimeUnit::Second, value)
 }
+
+// The answers of truncation around zero and at the least value of each width, whose proofs the check asks for here.
+fn readings()
+    ensures zero { TimesAroundZero }
+    ensures least { LeastTimes }
+{}

@@ -47,7 +47,7 @@ fn date_trunc_coarse_with_tz<Z: Zone>(
     at: Moment,
 ) -> Result<Moment, Fault>
     requires { OfRange at.second }
-    ensures { MatchResult result (λ m. OnlyOne (OnClock (offset zone.now) granularity (nanos_of at)) (nanos_of m) × KeepsUnits (nanos_of at) (nanos_of m)) (λ f. ⊥) }
+    ensures { MatchResult result (λ m. OnlyOne (OnClock (Z.offset zone.now) granularity (nanos_of at)) (nanos_of m) × KeepsUnits (nanos_of at) (nanos_of m)) (λ f. ⊥) }
 {
     let here = zone.offset_at(at.second)?;
     let found = date_trunc_coarse(granularity, at.ahead(here))?;
@@ -66,7 +66,7 @@ fn instant_trunc_with_tz<Z: Zone>(
     instant: i64,
 ) -> Result<i64, Fault>
     requires { InUnits unit instant }
-    ensures { CutOn (offset zone.now) unit granularity instant result }
+    ensures { CutOn (Z.offset zone.now) unit granularity instant result }
 {
     let at = Moment::of(instant);
     let start = date_trunc_coarse_with_tz(zone, granularity, at)?.instant()?;
@@ -80,7 +80,7 @@ pub fn general_date_trunc_with_tz<Z: Zone>(
     granularity: Granularity,
     value: i64,
 ) -> Result<i64, Fault>
-    ensures { TruncatedIn (offset zone.now) unit granularity value result }
+    ensures { TruncatedIn (Z.offset zone.now) unit granularity value result }
 {
     let instant = scaled(unit, value)?;
     instant_trunc_with_tz(zone, unit, granularity, instant)
@@ -92,7 +92,7 @@ pub fn date_trunc_timestamp_value_with_tz<T: ArrowTimestampType, Z: Zone>(
     granularity: Granularity,
     value: Option<i64>,
 ) -> Result<Option<i64>, Fault>
-    ensures { EachFilled (TruncatedIn (offset zone.now) T.ArrowTimestampType.measure granularity) value result }
+    ensures { EachFilled (TruncatedIn (Z.offset zone.now) T.ArrowTimestampType.measure granularity) value result }
 {
     match value {
         None => Ok(None),

@@ -1,4 +1,6 @@
 // Zones: what a clock shows at each second of UTC.
+#![tactic(auto)]
+
 mod clock;
 mod fixed;
 mod seek;

@@ -27,7 +27,7 @@ fn in_reach(reading: i64) -> bool
 
 // Whether the clock reads later than a reading at a second.
 fn reads_later<Z: Zone>(zone: &Z, second: i64, reading: i64) -> Result<bool, Fault>
-    ensures { LaterAnswer (offset zone.now) second reading result }
+    ensures { LaterAnswer (Z.offset zone.now) second reading result }
 {
     let offset = zone.offset_at(second)?;
     Ok(reading < second + offset)
@@ -43,8 +43,8 @@ fn middle(earlier: i64, later: i64) -> i64
 
 // The second at which the clock passes a reading that it skips, by halving.
 fn passing_second<Z: Zone>(zone: &Z, reading: i64) -> Result<i64, Fault>
-    requires { SkippedBy (offset zone.now) reading }
-    ensures { PassingAnswer (offset zone.now) reading result }
+    requires { SkippedBy (Z.offset zone.now) reading }
+    ensures { PassingAnswer (Z.offset zone.now) reading result }
 {
     if !in_reach(reading) {
         return Err(outside_span());
@@ -64,7 +64,7 @@ fn passing_second<Z: Zone>(zone: &Z, reading: i64) -> Result<i64, Fault>
 
 // Where a reading stands on the clock of a zone.
 pub fn place_of<Z: Zone>(zone: &Z, reading: i64) -> Result<Place, Fault>
-    ensures { PlaceAnswer (offset zone.now) reading result }
+    ensures { PlaceAnswer (Z.offset zone.now) reading result }
 {
     if !in_reach(reading) {
         return Err(outside_span());

@@ -17,16 +17,16 @@ period_first k t m n r h first number start =
 
 pub returns-in-Month : goal.returns-in-Month
 returns-in-Month c =
-    let r = to_z-of_z w64 c.month-start.result (record { sfits = c.month-start.type-inv }) in
-    rw c.in-Month.is (period_first 1 c.args.date c.args.date.month c.args.days _ (lit< tt) (omega arith) c.requires.1 (r ∙ c.month-start.ensures))
+    let r = to_z-of_z w64 c.month_start.result (record { sfits = c.month_start.type_inv }) in
+    rw c.in-Month.is (period_first 1 c.args.date c.args.date.month c.args.days _ (lit< tt) (omega arith) c.requires.1 (r ∙ c.month_start.ensures))
 
 pub returns-in-Quarter : goal.returns-in-Quarter
 returns-in-Quarter c =
-    let r = to_z-of_z w64 c.month-start-in-Quarter.result (record { sfits = c.month-start-in-Quarter.type-inv }) in
-    rw c.in-Quarter.is (period_first 3 c.args.date _ c.args.days _ (lit< tt) c.quarter-month.ensures c.requires.1 (r ∙ c.month-start-in-Quarter.ensures))
+    let r = to_z-of_z w64 c.month_start-in-Quarter.result (record { sfits = c.month_start-in-Quarter.type_inv }) in
+    rw c.in-Quarter.is (period_first 3 c.args.date _ c.args.days _ (lit< tt) c.quarter_month.ensures c.requires.1 (r ∙ c.month_start-in-Quarter.ensures))
 
 pub returns-in-Year : goal.returns-in-Year
 returns-in-Year c =
-    let r = to_z-of_z w64 c.month-start-in-Year.result (record { sfits = c.month-start-in-Year.type-inv }) in
+    let r = to_z-of_z w64 c.month_start-in-Year.result (record { sfits = c.month_start-in-Year.type_inv }) in
     let t = c.args.date in
-    rw c.in-Year.is (period_first 12 t 1 c.args.days _ (lit< tt) (omega (arith, t.first_month, t.last_month)) c.requires.1 (r ∙ c.month-start-in-Year.ensures))
+    rw c.in-Year.is (period_first 12 t 1 c.args.days _ (lit< tt) (omega (arith, t.first_month, t.last_month)) c.requires.1 (r ∙ c.month_start-in-Year.ensures))

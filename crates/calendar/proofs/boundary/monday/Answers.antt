@@ -11,6 +11,6 @@ unfolding weekday
 returns c =
     let n = c.args.days in
     let z : to_z w64 (of_z w64 (to_z w64 (of_z w64 n) +ℤ pos 3)) ≡ n +ℤ pos 3 = omega (arith, ints) in
-    let r : c.rem-euclid.result ≡ pos (rem (n +ℤ pos 3) 7) = (rw z at c.rem-euclid.ensures.value) ∙ rem_is (n +ℤ pos 3) 7 in
+    let r : c.rem_euclid.result ≡ pos (rem (n +ℤ pos 3) 7) = (rw z at c.rem_euclid.ensures.value) ∙ rem_is (n +ℤ pos 3) 7 in
     let b = (floor_is (n +ℤ pos 3) 7 (lit< tt)).1 in
     greatest_multiple 3 7 n _ (lit< tt) (omega (arith, ints))

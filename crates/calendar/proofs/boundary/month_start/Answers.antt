@@ -4,7 +4,14 @@ use Rattle.arith.proofs.Months.{some_day}
 use Rattle.arith.specs.Gregorian.{leap}
 use Rattle.calendar.proofs.boundary.month_start.Goals as goal
 
-pub invariant-of-days-from-date : goal.invariant-of-days-from-date
-invariant-of-days-from-date c =
+pub invariant_of-days_from_date : goal.invariant_of-days_from_date
+invariant_of-days_from_date c =
     let t = c.args.date in
-    (t.first_year, (t.last_year, (c.requires.0, (c.requires.1, (omega arith, (some_day (leap (pos t.year)) _ c.requires.0 c.requires.1, tt))))))
+    record {
+      first_year = t.first_year;
+      last_year = t.last_year;
+      first_month = c.requires.0;
+      last_month = c.requires.1;
+      first_day = omega arith;
+      last_day = some_day (leap (pos t.year)) _ c.requires.0 c.requires.1;
+    }

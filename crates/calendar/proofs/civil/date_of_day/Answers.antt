@@ -9,8 +9,8 @@ use Rattle.calendar.proofs.civil.date_of_day.Goals as goal
 
 pub returns : goal.returns
 returns c =
-    let t = c.march-date.result in
+    let t = c.march_date.result in
     let n = number_is t.year t.month t.day t.first_year t.first_month t.last_month in
     let v = is_date t in
-    let e : day_number (pos t.year) t.month t.day ≡ c.args.days = omega (arith, ints, n, c.march-date.ensures) in
+    let e : day_number (pos t.year) t.month t.day ≡ c.args.days = omega (arith, ints, n, c.march_date.ensures) in
     only_date_lem c.args.days (pos t.year) t.month t.day v e

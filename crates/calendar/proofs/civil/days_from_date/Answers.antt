@@ -11,7 +11,7 @@ pub returns : goal.returns
 returns c =
     let t = c.args.date in
     let v = is_date t in
-    let e : to_z w64 (of_z w64 c.march-number.result) ≡ number_of t = to_z-of_z w64 _ (record { sfits = c.march-number.type-inv }) ∙ c.march-number.ensures in
+    let e : to_z w64 (of_z w64 c.march_number.result) ≡ number_of t = to_z-of_z w64 _ (record { sfits = c.march_number.type_inv }) ∙ c.march_number.ensures in
     record {
       number = e;
       span = rw e (in_span (pos t.year) t.month t.day (omega (arith, ints, t.first_year), omega (arith, ints, t.last_year)) v);

@@ -5,7 +5,7 @@ use Rattle.arith.proofs.Numbers.{Found, march_to_december, january_february}
 use Rattle.arith.specs.Gregorian.{leap}
 use Rattle.arith.specs.March.{march, march_days}
 use Rattle.calendar.proofs.civil.march_date.Goals as goal
-use Rattle.calendar.proofs.civil.march_date.Goals.{Joined-month-lt10, at·returns, then-month-lt10, else-month-lt10}
+use Rattle.calendar.proofs.civil.march_date.Goals.{Joined-month-lt10, at-returns, then-month-lt10, else-month-lt10}
 
 abbrev Parts : Type 0
 Parts = ℕ × (ℕ × (ℕ × Unit {0}))
@@ -28,17 +28,26 @@ found : (c : Joined-month-lt10) → let p : Parts = c.if-month-lt10.result in Fo
 found c =
     let p : Parts = c.if-month-lt10.result in
     elim c.if-month-lt10.branch [
-      | then-month-lt10 w ↦ early _ _ _ p c.requires c.march-year-year.ensures c.march-start.ensures w.result-is w.if-month-lt10.true
-      | else-month-lt10 w ↦ late _ _ _ p c.requires c.march-year-year.ensures c.march-start.ensures w.result-is w.if-month-lt10.false
+      | then-month-lt10 w ↦ early _ _ _ p c.requires c.march_year-year.ensures c.march_start.ensures w.result-is w.if-month-lt10.true
+      | else-month-lt10 w ↦ late _ _ _ p c.requires c.march_year-year.ensures c.march_start.ensures w.result-is w.if-month-lt10.false
     ]
 
-pub overflow-cast-result-else-month-lt10-2 : goal.overflow-cast-result-else-month-lt10-2
-overflow-cast-result-else-month-lt10-2 c =
-    let y = c.march-year-year.result in
+pub overflow_cast-result-else-month-lt10-2 : goal.overflow_cast-result-else-month-lt10-2
+overflow_cast-result-else-month-lt10-2 c =
+    let y = c.march_year-year.result in
     record { fits = omega (arith, march_next y, year_long (leap (lib.IntN.pos (y + 1)))) }
 
-pub invariant-of-result : goal.invariant-of-result
-invariant-of-result c = let f = found c in (f.first_year, (f.last_year, (f.first_month, (f.last_month, (f.first_day, (f.last_day, tt))))))
+pub invariant_of-result : goal.invariant_of-result
+invariant_of-result c =
+    let f = found c in
+    record {
+      first_year = f.first_year;
+      last_year = f.last_year;
+      first_month = f.first_month;
+      last_month = f.last_month;
+      first_day = f.first_day;
+      last_day = f.last_day;
+    }
 
 pub returns : goal.returns
-returns c = (found (at·returns c).Joined-month-lt10).number
+returns c = (found (at-returns c).Joined-month-lt10).number

@@ -18,19 +18,19 @@ module _ (y m d s : ℕ) (p : ℕ × ℕ) (first : 1 ≤ d) (start : s ≡ march
       rw (e, since_march_lem y m d h, f) (omega arith)
 
 -- what the code has computed
-sum_is : (c : goal.After-march-start) → c.march-start.result + (march_days c.if-date-lt3.year.1 + c.args.date.day - 1) ≡ since_march c.args.date.year c.args.date.month c.args.date.day
+sum_is : (c : goal.After-march_start) → c.march_start.result + (march_days c.if-date-lt3.year.1 + c.args.date.day - 1) ≡ since_march c.args.date.year c.args.date.month c.args.date.day
 sum_is c =
     let t = c.args.date in
     elim c.if-date-lt3.branch [
-      | then-date-lt3 w ↦ early t.year t.month t.day _ c.if-date-lt3.year t.first_day c.march-start.ensures w.year-is w.if-date-lt3.true
-      | else-date-lt3 w ↦ late t.year t.month t.day _ c.if-date-lt3.year t.first_day c.march-start.ensures w.year-is w.if-date-lt3.false
+      | then-date-lt3 w ↦ early t.year t.month t.day _ c.if-date-lt3.year t.first_day c.march_start.ensures w.year-is w.if-date-lt3.true
+      | else-date-lt3 w ↦ late t.year t.month t.day _ c.if-date-lt3.year t.first_day c.march_start.ensures w.year-is w.if-date-lt3.false
     ]
 
-below : (c : goal.After-march-start) → since_march c.args.date.year c.args.date.month c.args.date.day < 4000000
+below : (c : goal.After-march_start) → since_march c.args.date.year c.args.date.month c.args.date.day < 4000000
 below c = let t = c.args.date in since_below t.year t.month t.day t.first_year t.last_year t.first_month t.last_month t.last_day
 
-pub overflow-add-result : goal.overflow-add-result
-overflow-add-result c = record { fits = omega (arith, sum_is c, below c) }
+pub overflow_add-result : goal.overflow_add-result
+overflow_add-result c = record { fits = omega (arith, sum_is c, below c) }
 
 pub returns : goal.returns
 returns c =

@@ -2,10 +2,10 @@
 use Rattle.arith.specs.Gregorian.{month_length}
 use Rattle.calendar.proofs.make.length_of_month.Goals as goal
 
-pub returns-then-leap-year : goal.returns-then-leap-year
+pub returns-then-leap_year : goal.returns-then-leap_year
 unfolding month_length
-returns-then-leap-year c = rw c.if-leap-year.true
+returns-then-leap_year c = rw c.if-leap_year.true
 
-pub returns-else-leap-year : goal.returns-else-leap-year
+pub returns-else-leap_year : goal.returns-else-leap_year
 unfolding month_length
-returns-else-leap-year c = rw c.if-leap-year.false
+returns-else-leap_year c = rw c.if-leap_year.false

@@ -10,17 +10,24 @@ use Rattle.calendar.proofs.shift.shifted_date.Goals as goal
 the_day : (d i r l : ℕ) (b : mathlib.Core.Bool.Bool) → b ≡ leap (pos (i / 12)) → l ≡ month_length b (i % 12 + 1) → r ≡ min d l → r ≡ min d (month_length (leap (pos (i / 12))) (i % 12 + 1))
 the_day d i r l b p q e = e ∙ ap (min d) (q ∙ ap (λ x. month_length x (i % 12 + 1)) p)
 
-pub invariant-of-result : goal.invariant-of-result
-invariant-of-result c =
-    let i = c.in-ok-index.index in
-    let h = c.in-ok-index.ensures in
-    let e = the_day c.args.date.day i _ _ _ c.is-leap.ensures c.length-of-month.ensures c.min-day.ensures in
+pub invariant_of-result : goal.invariant_of-result
+invariant_of-result c =
+    let i = c.in_ok-index.index in
+    let h = c.in_ok-index.ensures in
+    let e = the_day c.args.date.day i _ _ _ c.is_leap.ensures c.length_of_month.ensures c.min-day.ensures in
     let s = some_day (leap (pos (i / 12))) (i % 12 + 1) (omega arith) (omega arith) in
-    (omega arith, (omega arith, (omega arith, (omega arith, (omega (arith, c.args.date.first_day), (omega arith, tt))))))
+    record {
+      first_year = omega arith;
+      last_year = omega arith;
+      first_month = omega arith;
+      last_month = omega arith;
+      first_day = omega (arith, c.args.date.first_day);
+      last_day = omega arith;
+    }
 
 pub returns : goal.returns
 returns c =
     let t = c.args.date in
-    let i = c.in-ok-index.index in
-    let e = the_day t.day i _ _ _ c.is-leap.ensures c.length-of-month.ensures c.min-day.ensures in
-    rw e (shifted_to (pos t.year) t.month t.day c.args.months i (omega (arith, ints, c.in-ok-index.ensures.0)))
+    let i = c.in_ok-index.index in
+    let e = the_day t.day i _ _ _ c.is_leap.ensures c.length_of_month.ensures c.min-day.ensures in
+    rw e (shifted_to (pos t.year) t.month t.day c.args.months i (omega (arith, ints, c.in_ok-index.ensures.0)))

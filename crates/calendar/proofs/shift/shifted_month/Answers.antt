@@ -3,24 +3,24 @@ use borrow.Author.Differences.{ints}
 use Rattle.std.proofs.Common.{arith}
 use Rattle.arith.specs.Shift.{month_index}
 use Rattle.calendar.proofs.shift.shifted_month.Goals as goal
-use Rattle.calendar.proofs.shift.shifted_month.Goals.{then-index-lt-FIRST-MONTH-via-then-index-lt-FIRST-MONTH, then-index-lt-FIRST-MONTH-via-else-index-lt-FIRST-MONTH+then-index-ge-PAST-LAST-MONTH}
+use Rattle.calendar.proofs.shift.shifted_month.Goals.{then-index-lt-FIRST_MONTH-via-then-index-lt-FIRST_MONTH, then-index-lt-FIRST_MONTH-via-else-index-lt-FIRST_MONTH+then-index-ge-PAST_LAST_MONTH}
 
-pub returns-in-default : goal.returns-in-default
+pub returns-in_default : goal.returns-in_default
 unfolding month_index
-returns-in-default c = (
-  λ h. c.in-default.ensures (omega (arith, ints)),
-  c.outside-calendar.ensures,
+returns-in_default c = (
+  λ h. c.in_default.ensures (omega (arith, ints)),
+  c.outside_calendar.ensures,
 )
 
-pub returns-then-index-lt-FIRST-MONTH : goal.returns-then-index-lt-FIRST-MONTH
+pub returns-then-index-lt-FIRST_MONTH : goal.returns-then-index-lt-FIRST_MONTH
 unfolding month_index
-returns-then-index-lt-FIRST-MONTH c = (
+returns-then-index-lt-FIRST_MONTH c = (
   λ h. let s = c.in-Some.ensures in
-      elim c.then-index-lt-FIRST-MONTH.branch [
-        | then-index-lt-FIRST-MONTH-via-then-index-lt-FIRST-MONTH w ↦ omega (arith, ints, w.if-index-lt-FIRST-MONTH.true)
-        | then-index-lt-FIRST-MONTH-via-else-index-lt-FIRST-MONTH+then-index-ge-PAST-LAST-MONTH w ↦ omega (arith, ints, w.if-index-ge-PAST-LAST-MONTH.true)
+      elim c.then-index-lt-FIRST_MONTH.branch [
+        | then-index-lt-FIRST_MONTH-via-then-index-lt-FIRST_MONTH w ↦ omega (arith, ints, w.if-index-lt-FIRST_MONTH.true)
+        | then-index-lt-FIRST_MONTH-via-else-index-lt-FIRST_MONTH+then-index-ge-PAST_LAST_MONTH w ↦ omega (arith, ints, w.if-index-ge-PAST_LAST_MONTH.true)
       ],
-  c.outside-calendar-then-index-lt-FIRST-MONTH.ensures,
+  c.outside_calendar-then-index-lt-FIRST_MONTH.ensures,
 )
 
 pub returns : goal.returns

@@ -9,5 +9,5 @@ returns-in-Two c =
     let s : SFits w64 c.in-Two.second = search rules in
     let b = c.ranges.boundary in
     let h = c.ranges.here in
-    let told = simp to_z-of_z at c.of-two.ensures in
-    rw (c.in-Two.is, to_z-of_z w64 c.of-two.result (record { sfits = c.of-two.type-inv })) told
+    let told = simp to_z-of_z at c.of_two.ensures in
+    rw (c.in-Two.is, to_z-of_z w64 c.of_two.result (record { sfits = c.of_two.type_inv })) told

@@ -28,42 +28,42 @@ of_reading g s o b n m l (e, f) h = subst (λ z. GreatestNotAfter (Boundary g) z
 
 pub ahead-requires : goal.ahead-requires
 ahead-requires g c =
-    let h = here_is _ (g.Z.Zone.laws c.args.zone.now) _ _ c.requires c.in-ok-here.ensures in
-    (c.requires, rw (in_64 c.in-ok-here.here h.1) h.1)
+    let h = here_is _ (g.Z.Zone.laws c.args.zone.now) _ _ c.requires c.in_ok-here.ensures in
+    (c.requires, rw (in_64 c.in_ok-here.here h.1) h.1)
 
-pub date-trunc-coarse-requires : goal.date-trunc-coarse-requires
-date-trunc-coarse-requires g c =
-    let h = here_is _ (g.Z.Zone.laws c.args.zone.now) _ _ c.requires c.in-ok-here.ensures in
-    let e = c.ahead.ensures.0 ∙ ap (λ z. c.args.at.second +ℤ z) (in_64 c.in-ok-here.here h.1) in
-    rw e (reading_near c.args.at.second c.in-ok-here.here c.requires h.1)
+pub date_trunc_coarse-requires : goal.date_trunc_coarse-requires
+date_trunc_coarse-requires g c =
+    let h = here_is _ (g.Z.Zone.laws c.args.zone.now) _ _ c.requires c.in_ok-here.ensures in
+    let e = c.ahead.ensures.0 ∙ ap (λ z. c.args.at.second +ℤ z) (in_64 c.in_ok-here.here h.1) in
+    rw e (reading_near c.args.at.second c.in_ok-here.here c.requires h.1)
 
-pub returns-in-err-place : goal.returns-in-err-place
-returns-in-err-place g c =
-    let h = here_is _ (g.Z.Zone.laws c.args.zone.now) _ _ c.requires c.in-ok-here.ensures in
+pub returns-in_err-place : goal.returns-in_err-place
+returns-in_err-place g c =
+    let h = here_is _ (g.Z.Zone.laws c.args.zone.now) _ _ c.requires c.in_ok-here.ensures in
     let at = c.args.at in
-    let found = c.in-ok-found.found in
-    let near = reading_near at.second c.in-ok-here.here c.requires h.1 in
-    let b = of_reading c.args.granularity at.second c.in-ok-here.here (nanos_of found) at.nanos c.ahead.result h.1 c.ahead.ensures c.in-ok-found.ensures in
+    let found = c.in_ok-found.found in
+    let near = reading_near at.second c.in_ok-here.here c.requires h.1 in
+    let b = of_reading c.args.granularity at.second c.in_ok-here.here (nanos_of found) at.nanos c.ahead.result h.1 c.ahead.ensures c.in_ok-found.ensures in
     let reach = in_reach c.args.granularity _ found.second _ found.nanos near at.below found.below b in
     let f : SFits w64 found.second = search rules in
-    absurd (c.in-err-place.ensures.0 (rw (to_z-of_z w64 found.second f) reach))
+    absurd (c.in_err-place.ensures.0 (rw (to_z-of_z w64 found.second f) reach))
 
 pub chosen-requires : goal.chosen-requires
 chosen-requires g c =
-    let h = here_is _ (g.Z.Zone.laws c.args.zone.now) _ _ c.requires c.in-ok-here.ensures in
-    (c.in-ok-place.ensures.0, rw (in_64 c.in-ok-here.here h.1) h.1)
+    let h = here_is _ (g.Z.Zone.laws c.args.zone.now) _ _ c.requires c.in_ok-here.ensures in
+    (c.in_ok-place.ensures.0, rw (in_64 c.in_ok-here.here h.1) h.1)
 
 pub returns : goal.returns
 returns g c =
     let o = g.Z.Zone.offset c.args.zone.now in
     let law = g.Z.Zone.laws c.args.zone.now in
-    let h = here_is _ law _ _ c.requires c.in-ok-here.ensures in
+    let h = here_is _ law _ _ c.requires c.in_ok-here.ensures in
     let at = c.args.at in
-    let found = c.in-ok-found.found in
-    let b = of_reading c.args.granularity at.second c.in-ok-here.here (nanos_of found) at.nanos c.ahead.result h.1 c.ahead.ensures c.in-ok-found.ensures in
+    let found = c.in_ok-found.found in
+    let b = of_reading c.args.granularity at.second c.in_ok-here.here (nanos_of found) at.nanos c.ahead.result h.1 c.ahead.ensures c.in_ok-found.ensures in
     let f : SFits w64 found.second = search rules in
     let q = to_z-of_z w64 found.second f in
-    let place = rw q at c.in-ok-place.ensures.1 in
-    let e : to_z w64 (of_z w64 found.second) -ℤ to_z w64 (of_z w64 c.in-ok-here.here) ≡ found.second -ℤ c.in-ok-here.here = rw (q, in_64 c.in-ok-here.here h.1) refl in
-    let chosen = subst (λ z. Chosen z c.in-ok-place.place c.chosen.result) e c.chosen.ensures in
-    rw (to_z-of_z w64 c.chosen.result (record { sfits = c.chosen.type-inv })) (moment_on_clock o law c.args.granularity at.second c.in-ok-here.here found.second c.chosen.result at.nanos found.nanos at.below found.below h.0 b c.in-ok-place.place place chosen)
+    let place = rw q at c.in_ok-place.ensures.1 in
+    let e : to_z w64 (of_z w64 found.second) -ℤ to_z w64 (of_z w64 c.in_ok-here.here) ≡ found.second -ℤ c.in_ok-here.here = rw (q, in_64 c.in_ok-here.here h.1) refl in
+    let chosen = subst (λ z. Chosen z c.in_ok-place.place c.chosen.result) e c.chosen.ensures in
+    rw (to_z-of_z w64 c.chosen.result (record { sfits = c.chosen.type_inv })) (moment_on_clock o law c.args.granularity at.second c.in_ok-here.here found.second c.chosen.result at.nanos found.nanos at.below found.below h.0 b c.in_ok-place.place place chosen)

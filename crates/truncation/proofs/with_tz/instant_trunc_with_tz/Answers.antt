@@ -11,30 +11,30 @@ use Rattle.truncation.specs.Units.{KeepsUnits, scale_of}
 use Rattle.truncation.proofs.Truncated.{on_ok, on_outside}
 use Rattle.truncation.proofs.with_tz.instant_trunc_with_tz.Given.{Over}
 use Rattle.truncation.proofs.with_tz.instant_trunc_with_tz.Goals as goal
-use Rattle.truncation.proofs.with_tz.instant_trunc_with_tz.Goals.{In-ok-date-trunc-coarse-with-tz, at·returns-in-err-start, at·returns}
+use Rattle.truncation.proofs.with_tz.instant_trunc_with_tz.Goals.{In_ok-date_trunc_coarse_with_tz, at-returns-in_err-start, at-returns}
 
-cut : (g : Over) (c : In-ok-date-trunc-coarse-with-tz g) → OnlyOne (OnClock (g.Z.Zone.offset c.args.zone.now) c.args.granularity c.args.instant) (nanos_of c.in-ok-date-trunc-coarse-with-tz.field-0) × KeepsUnits c.args.instant (nanos_of c.in-ok-date-trunc-coarse-with-tz.field-0)
+cut : (g : Over) (c : In_ok-date_trunc_coarse_with_tz g) → OnlyOne (OnClock (g.Z.Zone.offset c.args.zone.now) c.args.granularity c.args.instant) (nanos_of c.in_ok-date_trunc_coarse_with_tz.field-0) × KeepsUnits c.args.instant (nanos_of c.in_ok-date_trunc_coarse_with_tz.field-0)
 cut g c =
     let t : nanos_of c.of-at.result ≡ c.args.instant = c.of-at.ensures ∙ to_z-of_z w64 c.args.instant c.ranges.instant in
-    let a = nanos_of c.in-ok-date-trunc-coarse-with-tz.field-0 in
-    subst (λ z. OnlyOne (OnClock (g.Z.Zone.offset c.args.zone.now) c.args.granularity z) a × KeepsUnits z a) t c.in-ok-date-trunc-coarse-with-tz.ensures
+    let a = nanos_of c.in_ok-date_trunc_coarse_with_tz.field-0 in
+    subst (λ z. OnlyOne (OnClock (g.Z.Zone.offset c.args.zone.now) c.args.granularity z) a × KeepsUnits z a) t c.in_ok-date_trunc_coarse_with_tz.ensures
 
-pub returns-in-err-start : goal.returns-in-err-start
-returns-in-err-start g c =
+pub returns-in_err-start : goal.returns-in_err-start
+returns-in_err-start g c =
     let o = g.Z.Zone.offset c.args.zone.now in
     let u = c.args.unit in
     let k = c.args.granularity in
-    let y = err_from_is_err_and c.from-residual-in-err-start.result c.from-residual-in-err-start.ensures.1 in
-    let n = c.in-err-start.ensures in
-    subst (CutOn o u k c.args.instant) (sym y.1) (on_outside o u k c.args.instant _ (cut g (at·returns-in-err-start g c).In-ok-date-trunc-coarse-with-tz).0 y.0 n.0 (y.2 ∙ n.1))
+    let y = err_from_is_err_and c.from_residual-in_err-start.result c.from_residual-in_err-start.ensures.1 in
+    let n = c.in_err-start.ensures in
+    subst (CutOn o u k c.args.instant) (sym y.1) (on_outside o u k c.args.instant _ (cut g (at-returns-in_err-start g c).In_ok-date_trunc_coarse_with_tz).0 y.0 n.0 (y.2 ∙ n.1))
 
 pub returns : goal.returns
 returns g c =
     let o = g.Z.Zone.offset c.args.zone.now in
     let u = c.args.unit in
-    let f : SFits w64 c.in-ok-start.start = search rules in
-    let s = to_z-of_z w64 c.in-ok-start.start f in
-    let a = nanos_of c.in-ok-date-trunc-coarse-with-tz.field-0 in
-    let r : to_z w64 (of_z w64 c.in-unit.result) ≡ int_div_euclid a (scale_of u) = to_z-of_z w64 c.in-unit.result (record { sfits = c.in-unit.type-inv }) ∙ c.in-unit.ensures ∙ ap (λ z. int_div_euclid z (scale_of u)) (s ∙ c.in-ok-start.ensures) in
-    let h = cut g (at·returns g c).In-ok-date-trunc-coarse-with-tz in
-    on_ok o u c.args.granularity c.args.instant a h.0 _ (h.1 u c.requires) (subst Fits c.in-ok-start.ensures f) r
+    let f : SFits w64 c.in_ok-start.start = search rules in
+    let s = to_z-of_z w64 c.in_ok-start.start f in
+    let a = nanos_of c.in_ok-date_trunc_coarse_with_tz.field-0 in
+    let r : to_z w64 (of_z w64 c.in_unit.result) ≡ int_div_euclid a (scale_of u) = to_z-of_z w64 c.in_unit.result (record { sfits = c.in_unit.type_inv }) ∙ c.in_unit.ensures ∙ ap (λ z. int_div_euclid z (scale_of u)) (s ∙ c.in_ok-start.ensures) in
+    let h = cut g (at-returns g c).In_ok-date_trunc_coarse_with_tz in
+    on_ok o u c.args.granularity c.args.instant a h.0 _ (h.1 u c.requires) (subst Fits c.in_ok-start.ensures f) r

@@ -17,9 +17,9 @@ middle-between-requires g c =
 
 pub loop-later-preserved-then-branch : goal.loop-later-preserved-then-branch
 loop-later-preserved-then-branch g c =
-    lowered _ _ _ _ _ c.loop-later.invariant (omega (arith, ints)) (omega (arith, ints)) _ c.in-ok-reads-later.ensures.1 c.if-branch.true
+    lowered _ _ _ _ _ c.loop-later.invariant (omega (arith, ints)) (omega (arith, ints)) _ c.in_ok-reads_later.ensures.1 c.if-branch.true
 
 pub loop-later-preserved : goal.loop-later-preserved
 loop-later-preserved g c =
     let skipped : SkippedBy (g.Z.Zone.offset c.args.zone.now) (to_z w64 (of_z w64 c.args.reading)) = rw (to_z-of_z w64 c.args.reading c.ranges.reading) c.requires in
-    raised _ _ _ _ _ skipped c.loop-later.invariant (omega (arith, ints)) (omega (arith, ints)) _ c.in-ok-reads-later.ensures.1 c.if-branch.false
+    raised _ _ _ _ _ skipped c.loop-later.invariant (omega (arith, ints)) (omega (arith, ints)) _ c.in_ok-reads_later.ensures.1 c.if-branch.false

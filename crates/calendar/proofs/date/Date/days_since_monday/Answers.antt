@@ -11,9 +11,9 @@ pub returns : goal.returns
 unfolding weekday
 returns c =
     let n = number_of c.args.self in
-    let e = c.days-from-date.ensures.number in
-    let s = c.days-from-date.ensures.span in
-    let z : to_z w64 (of_z w64 (to_z w64 (of_z w64 c.days-from-date.result) +ℤ pos 3)) ≡ n +ℤ pos 3 = omega (arith, ints) in
-    let r : c.rem-euclid.result ≡ pos (rem (n +ℤ pos 3) 7) = (rw z at c.rem-euclid.ensures.value) ∙ rem_is (n +ℤ pos 3) 7 in
+    let e = c.days_from_date.ensures.number in
+    let s = c.days_from_date.ensures.span in
+    let z : to_z w64 (of_z w64 (to_z w64 (of_z w64 c.days_from_date.result) +ℤ pos 3)) ≡ n +ℤ pos 3 = omega (arith, ints) in
+    let r : c.rem_euclid.result ≡ pos (rem (n +ℤ pos 3) 7) = (rw z at c.rem_euclid.ensures.value) ∙ rem_is (n +ℤ pos 3) 7 in
     let b = (floor_is (n +ℤ pos 3) 7 (lit< tt)).1 in
     record { value = omega (arith, ints); bound = omega (arith, ints); laws = (thursday, turns) }

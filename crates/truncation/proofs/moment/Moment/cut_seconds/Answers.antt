@@ -10,12 +10,12 @@ pub returns : goal.returns
 returns c =
     let s = c.args.self.second in
     let k = c.args.length in
-    let r = c.rem-euclid.result in
+    let r = c.rem_euclid.result in
     let near = c.requires.1 in
     let some = some_length k c.requires.0 in
     let z : to_z w64 (of_z w64 s) ≡ s = omega (arith, ints) in
     let l : to_z w64 k ≡ pos k = omega (arith, ints, some) in
-    let v : r ≡ int_rem_euclid s (pos k) = rw (z, l) at c.rem-euclid.ensures.value in
+    let v : r ≡ int_rem_euclid s (pos k) = rw (z, l) at c.rem_euclid.ensures.value in
     let below = (floor_is s k some.0).1 in
     let small : r ≡ pos (rem s k) = v ∙ rem_is s k in
     let e : to_z w64 (of_z w64 (to_z w64 (of_z w64 s) -ℤ to_z w64 (of_z w64 r))) ≡ s -ℤ r = omega (arith, ints, some, below, small) in

@@ -4,8 +4,14 @@ use Rattle.std.proofs.lemmas.Int.{to_z-of_z}
 use Rattle.arith.specs.Clock.{LawfulOffset}
 use Rattle.zone.proofs.table.TableZone.of.Goals as goal
 
-pub invariant-of-result : goal.invariant-of-result
-invariant-of-result c =
+pub invariant_of-result : goal.invariant_of-result
+invariant_of-result c =
     let t = c.requires in
-    let begins = subst LawfulOffset (sym (to_z-of_z w64 c.args.first c.ranges.first)) t.begins in
-    (t.few, (begins, (t.minutes, (t.inside, (t.offsets, (t.apart, tt))))))
+    record {
+      few = t.few;
+      begins = subst LawfulOffset (sym (to_z-of_z w64 c.args.first c.ranges.first)) t.begins;
+      minutes = t.minutes;
+      inside = t.inside;
+      offsets = t.offsets;
+      apart = t.apart;
+    }

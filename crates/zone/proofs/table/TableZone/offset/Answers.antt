@@ -9,7 +9,7 @@ returns c =
     let z = c.args.self.now in
     let fits = c.ranges.second in
     let q = simp to_z-of_z at c.passed.ensures in
-    let value = c.offset-after.ensures.value in
-    let lawful = c.offset-after.ensures.lawful in
+    let value = c.offset_after.ensures.value in
+    let lawful = c.offset_after.ensures.lawful in
     let by = offset_passed z.first z.changes.now c.args.second c.passed.result q in
     omega (arith, ints)

@@ -5,12 +5,12 @@ use Rattle.std.proofs.lemmas.Bool.Decides.{not_from_Decides}
 use Rattle.zone.proofs.Tables.{halved_up, halved_down}
 use Rattle.zone.proofs.table.TableZone.passed.Goals as goal
 
-pub loop-low-preserved-then-has-come : goal.loop-low-preserved-then-has-come
-loop-low-preserved-then-has-come c =
-    let come = c.if-has-come.ensures.0 refl in
+pub loop-low-preserved-then-has_come : goal.loop-low-preserved-then-has_come
+loop-low-preserved-then-has_come c =
+    let come = c.if-has_come.ensures.0 refl in
     halved_up _ c.args.self.now.apart _ _ _ _ c.loop-low.invariant (omega arith) (omega (arith, ints))
 
 pub loop-low-preserved : goal.loop-low-preserved
 loop-low-preserved c =
-    let not-come = not_from_Decides c.has-come.result c.has-come.ensures c.if-has-come.false in
-    halved_down _ c.args.self.now.apart _ _ _ _ c.loop-low.invariant (omega arith) (omega arith) (by_lt_z _ _ (λ l. l) (λ h. absurd (not-come (omega (arith, ints)))))
+    let not_come = not_from_Decides c.has_come.result c.has_come.ensures c.if-has_come.false in
+    halved_down _ c.args.self.now.apart _ _ _ _ c.loop-low.invariant (omega arith) (omega arith) (by_lt_z _ _ (λ l. l) (λ h. absurd (not_come (omega (arith, ints)))))

@@ -5,7 +5,7 @@ use Rattle.zone.proofs.Tables.{table_from_fits}
 use Rattle.zone.proofs.table.fill.is_lawful_table.Goals as goal
 
 pub loop-i-preserved : goal.loop-i-preserved
-loop-i-preserved c = below_more (FitsAt c.args.changes.now) c.loop-i.i c.loop-i.invariant (c.if-not-fits-at.ensures.0 refl)
+loop-i-preserved c = below_more (FitsAt c.args.changes.now) c.loop-i.i c.loop-i.invariant (c.if-not-fits_at.ensures.0 refl)
 
 pub returns : goal.returns
 returns c =

@@ -1,8 +1,7 @@
--- Each time of day is the value less its remainder.
+-- Each reading is the value less its remainder.
 use Rattle.std.proofs.Common.{refl, lit<}
-use Rattle.truncation.proofs.ChangesOfClock.{changes_of_clock}
 use Rattle.truncation.proofs.TowardZero.{toward_zero}
-use Rattle.truncation.proofs.readings.readings.Goals as goal
+use Rattle.truncation.proofs.time.readings.Goals as goal
 
 pub returns : goal.returns
 returns c = record {
@@ -18,5 +17,4 @@ returns c = record {
     microseconds = toward_zero 3_600_000_000 _ _ (lit< tt) refl;
     nanoseconds = toward_zero 1_000 _ _ (lit< tt) refl;
   };
-  changes = changes_of_clock;
 }

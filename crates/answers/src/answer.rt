@@ -2,26 +2,14 @@
 use calendar::{Date, Fault};
 use std::fmt;
 use truncation::Granularity;
-use zone::Instants;
 
 #[derive(Clone, Copy)]
 pub(crate) enum Answer {
     Value(Option<i64>),
     Name(Granularity),
     Day(Date),
-    Zone,
-    Seconds(Instants),
     Refused(Fault),
     BadRequest,
-}
-
-// The seconds that have a reading, ascending.
-fn show_seconds<W: fmt::Write>(seconds: &Instants, f: &mut fmt::Formatter<W>) -> fmt::Result {
-    match seconds {
-        Instants::Skipped => f.write_str("ok -"),
-        Instants::One(second) => write!(f, "ok {second}"),
-        Instants::Two(first, second) => write!(f, "ok {first},{second}"),
-    }
 }
 
 // A fault by its numbers, with its row if it has one.
@@ -49,8 +37,6 @@ impl fmt::Display for Answer {
                 let day = date.day;
                 write!(f, "ok {year} {month} {day}")
             }
-            Answer::Zone => f.write_str("ok"),
-            Answer::Seconds(seconds) => show_seconds(seconds, f),
             Answer::Refused(fault) => show_fault(fault, f),
             Answer::BadRequest => f.write_str("bad request"),
         }

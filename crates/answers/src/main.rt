@@ -1,4 +1,6 @@
 // Answers requests, one a line, from standard input to standard output.
+#![tactic(auto)]
+
 mod answer;
 mod dates;
 mod names;
@@ -7,8 +9,6 @@ mod request;
 mod times;
 mod timestamps;
 mod words;
-mod zone_word;
-mod zones;
 
 use request::answer_line;
 use std::io;

@@ -6,7 +6,6 @@ use crate::refusal::Refusal;
 use crate::times::time_scalar;
 use crate::timestamps::trunc_scalar;
 use crate::words::Words;
-use crate::zones::{instants, offset, zone_made};
 use std::alloc::{AllocError, Global};
 
 // A request of timestamps, after its first word.
@@ -32,9 +31,6 @@ fn answer_words(heap: Global, mut words: Words) -> Result<Answer, Refusal> {
         b"days" => days(words),
         b"trunc" => trunc(heap, words),
         b"time" => time(heap, words),
-        b"zone" => zone_made(heap, words),
-        b"offset" => offset(heap, words),
-        b"instants" => instants(heap, words),
         _ => Err(Refusal::BadRequest),
     }
 }

@@ -1,33 +1,28 @@
 // The words of a request, and what a word can say.
-ghost use Rattle.std.specs.Prelude.{◌<◌, ◌≤◌, length, IfOk, OnOk};
-ghost use Rattle.answers.specs.Words.{unread};
+ghost use Rattle.std.specs.Prelude.{◌<◌, IfOk};
 
 use crate::refusal::Refusal;
-use crate::zone_word::ZoneWord;
 use std::alloc::Global;
 use truncation::TimeUnit;
 
-// The words of a text that are not read yet, separated by one mark each.
+// The words of a line that are not read yet, separated by one blank each.
 #[derive(Clone, Copy)]
 pub(crate) struct Words<'a> {
     rest: Option<&'a [u8]>,
-    mark: u8,
 }
 
-// The first word of a text, and what stands after its mark.
-fn split_word(text: &[u8], mark: u8) -> (&[u8], Option<&[u8]>)
-    ensures { unread result.1 ≤ length text.now }
-{
-    for (i, byte) in text.iter().enumerate() {
-        if *byte == mark {
-            return (&text[0..i], Some(&text[i + 1..]));
+// The first word of a line, and what stands after its blank.
+fn split_word(line: &[u8]) -> (&[u8], Option<&[u8]>) {
+    for (i, byte) in line.iter().enumerate() {
+        if *byte == b' ' {
+            return (&line[0..i], Some(&line[i + 1..]));
         }
     }
-    (text, None)
+    (line, None)
 }
 
 // A number: digits, after a minus or not, that fit 64 bits.
-pub(crate) fn number_of(word: &[u8]) -> Result<i64, Refusal> {
+fn number(word: &[u8]) -> Result<i64, Refusal> {
     if word.starts_with(b"+") {
         return Err(Refusal::BadRequest);
     }
@@ -69,25 +64,16 @@ fn hex_bytes(heap: Global, digits: &[u8]) -> Result<Vec<u8>, Refusal> {
 }
 
 impl<'a> Words<'a> {
-    // The words of a line.
     pub(crate) fn of(line: &'a [u8]) -> Words<'a> {
-        Words::by(b' ', line)
-    }
-
-    // The words that a mark separates.
-    pub(crate) fn by(mark: u8, text: &'a [u8]) -> Words<'a> {
-        let rest = Some(text);
-        Words { rest, mark }
+        Words { rest: Some(line) }
     }
 
     // The next word. None is empty.
-    pub(crate) fn word(&mut self) -> Result<&'a [u8], Refusal>
-        ensures { OnOk result (unread self.new.rest < unread self.old.rest) }
-    {
+    pub(crate) fn word(&mut self) -> Result<&'a [u8], Refusal> {
         let Some(rest) = self.rest else {
             return Err(Refusal::BadRequest);
         };
-        let (word, after) = split_word(rest, self.mark);
+        let (word, after) = split_word(rest);
         if word.is_empty() {
             return Err(Refusal::BadRequest);
         }
@@ -95,12 +81,7 @@ impl<'a> Words<'a> {
         Ok(word)
     }
 
-    // Whether words are left.
-    pub(crate) fn more(&self) -> bool {
-        self.rest.is_some()
-    }
-
-    // No word is left.
+    // Whether every word is read.
     pub(crate) fn end(&self) -> Result<(), Refusal> {
         match self.rest {
             None => Ok(()),
@@ -109,14 +90,14 @@ impl<'a> Words<'a> {
     }
 
     pub(crate) fn number(&mut self) -> Result<i64, Refusal> {
-        number_of(self.word()?)
+        number(self.word()?)
     }
 
     // A number, or none.
     pub(crate) fn value(&mut self) -> Result<Option<i64>, Refusal> {
         match self.word()? {
             b"null" => Ok(None),
-            word => Ok(Some(number_of(word)?)),
+            word => Ok(Some(number(word)?)),
         }
     }
 
@@ -138,15 +119,11 @@ impl<'a> Words<'a> {
         }
     }
 
-    pub(crate) fn zone(&mut self, heap: Global) -> Result<ZoneWord, Refusal> {
-        ZoneWord::of(heap, self.word()?)
-    }
-
-    // A zone, or none.
-    pub(crate) fn zone_or_none(&mut self, heap: Global) -> Result<Option<ZoneWord>, Refusal> {
+    // The word for no zone.
+    pub(crate) fn no_zone(&mut self) -> Result<(), Refusal> {
         match self.word()? {
-            b"-" => Ok(None),
-            word => Ok(Some(ZoneWord::of(heap, word)?)),
+            b"-" => Ok(()),
+            _ => Err(Refusal::BadRequest),
         }
     }
 }

@@ -6,7 +6,7 @@ use Rattle.std.proofs.lemmas.List.Sums.{sum_by-append, sum_by-cons, sum_by-set, 
 use Rattle.std.proofs.lemmas.Bool.{cases_eq, cases_order, cond-true, cond-false}
 use Rattle.std.specs.List.{insert}
 use Rattle.vaultlog.specs.declared.bucket.Bucket.{Bucket}
-use Rattle.vaultlog.specs.Filing.{start_at, Ascending, same, under, Missing, OneMore}
+use Rattle.vaultlog.specs.Filing.{start_at, Ascending, same, Missing, OneMore}
 
 -- ---- one start and another
 

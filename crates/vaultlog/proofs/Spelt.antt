@@ -1,5 +1,5 @@
 -- Digits that are read one by one, and the parts of a text.
-use Rattle.std.proofs.Common.{◌≡◌, ℕ, zero, suc, ◌+◌, ◌-◌, ◌*◌, ◌<◌, ◌≤◌, List, [], ◌∷◌, ◌++◌, length, get_or, take, drop, Some, None, Option, sym, ap, ◌∙◌, subst, inl, inr, arith, length-append, length-drop, MatchOption}
+use Rattle.std.proofs.Common.{◌≡◌, ℕ, zero, suc, ◌-◌, ◌*◌, ◌<◌, ◌≤◌, List, [], ◌∷◌, ◌++◌, length, get_or, take, drop, Some, None, Option, sym, ap, ◌∙◌, subst, inl, inr, arith, length-append, length-drop, MatchOption}
 use Rattle.std.proofs.lemmas.List.{append_cancel_right, get_or_default, get_or_past, take_all}
 use Rattle.std.proofs.lemmas.Bool.{cases_eq}
 use Rattle.vaultlog.specs.Digits.{IsDigit, first_of}

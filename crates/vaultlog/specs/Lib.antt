@@ -1,9 +1,7 @@
 pub mod Arguments
-pub mod Changes
 pub mod Digits
 pub mod Filing
 pub mod Instants
-pub mod Offsets
 pub mod Outcomes
 pub mod Rows
 pub mod Spelling

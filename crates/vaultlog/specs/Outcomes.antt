@@ -1,8 +1,9 @@
 -- What becomes of a line, and what filing it changes.
-use Rattle.std.specs.Prelude.{◌≡◌, ℕ, ◌+◌, ◌-◌, ◌^◌, ◌<◌, ◌≤◌, min, true, false, ◌⊎◌, List, length, take, drop, ℤ, Some, None, Ok, Err, IsUtf8, Option, Result, slice_index}
+use Rattle.std.specs.Prelude.{◌≡◌, ℕ, ◌+◌, ◌-◌, ◌^◌, ◌<◌, ◌≤◌, min, true, false, ◌⊎◌, List, length, take, drop, Some, None, Ok, Err, IsUtf8, Option, slice_index}
 use Rattle.std.specs.Borrow.{Bor}
 use Rattle.std.specs.Char.{is_ascii_whitespace}
-use Rattle.calendar.specs.declared.fault.Fault.{Fault}
+use Rattle.truncation.specs.Truncations.{Truncated}
+use Rattle.truncation.specs.declared.granularity.Granularity.{Granularity}
 use Rattle.truncation.specs.declared.unit.TimeUnit.{TimeUnit}
 use Rattle.vaultlog.specs.Filing.{OneMore}
 use Rattle.vaultlog.specs.Rows.{ReadAs}
@@ -13,12 +14,12 @@ use Rattle.vaultlog.specs.declared.log.Totals.{Totals}
 use Rattle.vaultlog.specs.declared.row.NotRead.TheVariants.{NoText}
 use Rattle.vaultlog.specs.declared.row.Row.TheVariants.{Value, Empty as Nothing}
 
--- a value is filed under the start that truncation gives it, or refused; an empty row, and a line that is no row, are neither
-abbrev pub Becomes : TimeUnit → (ℤ → Result ℤ Fault → Type 0) → List ℕ → Outcome → Type 0
-Becomes u Cut bs (Filed v s) = ReadAs u bs (Ok (Value v)) × Cut v (Ok s)
-Becomes u Cut bs Empty = ReadAs u bs (Ok Nothing)
-Becomes u Cut bs (Refused v f) = ReadAs u bs (Ok (Value v)) × Cut v (Err f)
-Becomes u Cut bs (NotRead e) = ReadAs u bs (Err e)
+-- a value is filed under its bucket's start, or refused; an empty row, and a line that is no row, are neither
+abbrev pub Becomes : TimeUnit → Granularity → List ℕ → Outcome → Type 0
+Becomes u g bs (Filed v s) = ReadAs u bs (Ok (Value v)) × Truncated u g v (Ok s)
+Becomes u g bs Empty = ReadAs u bs (Ok Nothing)
+Becomes u g bs (Refused v f) = ReadAs u bs (Ok (Value v)) × Truncated u g v (Err f)
+Becomes u g bs (NotRead e) = ReadAs u bs (Err e)
 
 -- a row is its line without the white space around it
 pub record Trimmed (line row : List ℕ) : Type 0 where
@@ -34,9 +35,9 @@ abbrev pub Skipped : List ℕ → Type 0
 Skipped row = (length row ≡ 0) ⊎ (slice_index row 0 ≡ 35)
 
 -- a row that is not skipped: its text, if it is text, and what becomes of it
-abbrev pub Entered : TimeUnit → (ℤ → Result ℤ Fault → Type 0) → List ℕ → Option (Bor (List ℕ)) → Outcome → Type 0
-Entered u Cut row (Some text) o = (text.now ≡ row) × Becomes u Cut row o
-Entered u Cut row None o = (IsUtf8 row → ⊥) × (o ≡ NotRead NoText)
+abbrev pub Entered : TimeUnit → Granularity → List ℕ → Option (Bor (List ℕ)) → Outcome → Type 0
+Entered u g row (Some text) o = (text.now ≡ row) × Becomes u g row o
+Entered u g row None o = (IsUtf8 row → ⊥) × (o ≡ NotRead NoText)
 
 -- the buckets before and after: only a value that is filed changes them
 abbrev pub FiledAs : Outcome → List Bucket → List Bucket → Type 0

@@ -14,7 +14,7 @@ pub(crate) struct Buckets {
 }
 
 // Why a row could not be filed.
-#[derive(Clone, Copy, Debug)]
+#[derive(Clone, Copy, PartialEq, Eq, Debug)]
 pub(crate) enum Unfiled {
     NoMemory,
     CountTooBig,

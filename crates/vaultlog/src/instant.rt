@@ -13,7 +13,7 @@ use calendar::{Date, DateTime};
 use truncation::TimeUnit;
 
 // A date and a time of day as they are written, whether they exist or not.
-#[derive(Clone, Copy)]
+#[derive(Clone, Copy, PartialEq, Eq, Debug)]
 pub(crate) struct Parts {
     pub year: i32,
     pub month: u32,
@@ -21,7 +21,7 @@ pub(crate) struct Parts {
     pub time: TimeParts,
 }
 
-#[derive(Clone, Copy)]
+#[derive(Clone, Copy, PartialEq, Eq, Debug)]
 pub(crate) struct TimeParts {
     pub hour: u32,
     pub minute: u32,
@@ -45,7 +45,7 @@ fn digit(byte: u8) -> Option<u32>
     }
 }
 
-pub(crate) fn two_digits(a: u8, b: u8) -> Option<u32>
+fn two_digits(a: u8, b: u8) -> Option<u32>
     ensures { MatchOption result (IsDigit a × IsDigit b → ⊥) (λ n. Two a b n) }
 {
     let tens = digit(a)?;

@@ -3,12 +3,12 @@ ghost use Rattle.std.specs.Prelude.{◌≡◌, ℕ, List, MatchOption, MatchResu
 ghost use Rattle.vaultlog.specs.Outcomes.{Becomes, Entered, FiledAs, Skipped, Trimmed, counted};
 
 use crate::buckets::{Buckets, Unfiled};
-use crate::cutter::Cutter;
 use crate::options::Options;
 use crate::row::{NotRead, Row, is_skipped, read_row};
 use calendar::Fault;
 use std::alloc::Global;
 use std::str::from_utf8;
+use truncation::general_date_trunc;
 
 // What became of a line.
 #[derive(Clone, Copy)]
@@ -36,12 +36,12 @@ pub(crate) struct Totals {
 }
 
 // What becomes of a line that is a row.
-fn outcome_of<C: Cutter>(cutter: &C, options: Options, text: &str) -> Outcome
-    ensures { Becomes options.unit (cuts cutter.now options.unit options.granularity) text.now result }
+fn outcome_of(options: Options, text: &str) -> Outcome
+    ensures { Becomes options.unit options.granularity text.now result }
 {
     match read_row(options.unit, text) {
         Ok(Row::Value(value)) => {
-            match cutter.cut(options.unit, options.granularity, value) {
+            match general_date_trunc(options.unit, options.granularity, value) {
                 Ok(start) => Outcome::Filed { value, start },
                 Err(fault) => Outcome::Refused { value, fault },
             }
@@ -52,12 +52,8 @@ fn outcome_of<C: Cutter>(cutter: &C, options: Options, text: &str) -> Outcome
 }
 
 // What becomes of a line. A blank line or a comment has no entry.
-pub(crate) fn entry_of<'a, C: Cutter>(
-    cutter: &C,
-    options: Options,
-    line: &'a [u8],
-) -> Option<Entry<'a>>
-    ensures { (row : List ℕ) × Trimmed line.now row × MatchOption result (Skipped row) (λ e. (Skipped row → ⊥) × Entered options.unit (cuts cutter.now options.unit options.granularity) row e.text e.outcome) }
+pub(crate) fn entry_of(options: Options, line: &[u8]) -> Option<Entry<'_>>
+    ensures { (row : List ℕ) × Trimmed line.now row × MatchOption result (Skipped row) (λ e. (Skipped row → ⊥) × Entered options.unit options.granularity row e.text e.outcome) }
 {
     let row = line.trim_ascii();
     if is_skipped(row) {
@@ -66,7 +62,7 @@ pub(crate) fn entry_of<'a, C: Cutter>(
     match from_utf8(row) {
         Ok(text) => Some(Entry {
             text: Some(text),
-            outcome: outcome_of(cutter, options, text),
+            outcome: outcome_of(options, text),
         }),
         Err(_) => Some(Entry {
             text: None,

@@ -16,7 +16,7 @@ pub(crate) enum Row {
     Empty,
 }
 
-// Why a text is no row of the log, or no line of a table.
+// Why a line is no row.
 #[derive(Clone, Copy, PartialEq, Eq, Debug)]
 pub(crate) enum NotRead {
     NoText,
@@ -26,7 +26,6 @@ pub(crate) enum NotRead {
     NoSuchTime,
     FinerThanUnit,
     OutsideUnit,
-    NoOffset,
 }
 
 impl fmt::Display for NotRead {
@@ -39,7 +38,6 @@ impl fmt::Display for NotRead {
             NotRead::NoSuchTime => f.write_str("no such time of day"),
             NotRead::FinerThanUnit => f.write_str("the instant is no whole number of the unit"),
             NotRead::OutsideUnit => f.write_str("the unit cannot hold the instant in 64 bits"),
-            NotRead::NoOffset => f.write_str("neither an offset such as +02:00 nor seconds"),
         }
     }
 }
@@ -66,7 +64,7 @@ fn all_digits(digits: &[u8]) -> bool
 }
 
 // Whether a text has the form of a number: digits, after a sign or none.
-pub(crate) fn is_number(text: &[u8]) -> bool
+fn is_number(text: &[u8]) -> bool
     ensures { Decides result (IsNumber text.now) }
 {
     match text {

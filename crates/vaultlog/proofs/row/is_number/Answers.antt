@@ -8,4 +8,4 @@ pub returns-in-45 : goal.returns-in-45
 returns-in-45 c =
     let bs = c.args.text.now in
     let sign : (get_or bs 0 0 ≡ 45) ⊎ (get_or bs 0 0 ≡ 43) = search rules in
-    subst (λ ds. Decides c.all-digits.result (IsNumeral 10 ds)) (rest_is bs 1 ∙ sym (after_sign bs sign)) c.all-digits.ensures
+    subst (λ ds. Decides c.all_digits.result (IsNumeral 10 ds)) (rest_is bs 1 ∙ sym (after_sign bs sign)) c.all_digits.ensures

@@ -13,17 +13,17 @@ leap y = cond (multiple 100 y) (multiple 400 y) (multiple 4 y)
 
 -- the months' lengths in days, January first
 abbrev pub month_lengths : Bool → List ℕ
-month_lengths isLeap = 31 ∷ cond isLeap 29 28 ∷ 31 ∷ 30 ∷ 31 ∷ 30 ∷ 31 ∷ 31 ∷ 30 ∷ 31 ∷ 30 ∷ 31 ∷ []
+month_lengths is_leap = 31 ∷ cond is_leap 29 28 ∷ 31 ∷ 30 ∷ 31 ∷ 30 ∷ 31 ∷ 31 ∷ 30 ∷ 31 ∷ 30 ∷ 31 ∷ []
 
 unfoldable pub month_length : Bool → ℕ → ℕ
-month_length isLeap m = slice_index (month_lengths isLeap) (m - 1)
+month_length is_leap m = slice_index (month_lengths is_leap) (m - 1)
 
 -- how many days of the year come before the month m
 unfoldable pub days_before : Bool → ℕ → ℕ
-days_before isLeap m = sum (take (m - 1) (month_lengths isLeap))
+days_before is_leap m = sum (take (m - 1) (month_lengths is_leap))
 
 abbrev pub year_length : Bool → ℕ
-year_length isLeap = cond isLeap 366 365
+year_length is_leap = cond is_leap 366 365
 
 -- the whole part of y / k, rounded down
 abbrev pub floor_div : ℤ → ℕ → ℤ

@@ -1,6 +1,6 @@
 // The day of the week.
 ghost use Rattle.std.specs.Prelude.{◌≡◌, ◌<◌};
-ghost use Rattle.arith.specs.Weekdays.{EpochIsThursday, WeekdaysTurn, weekday as weekdayOf};
+ghost use Rattle.arith.specs.Weekdays.{EpochIsThursday, WeekdaysTurn, weekday as weekday_of};
 ghost use Rattle.calendar.specs.DateTimes.{number_of};
 ghost use Rattle.calendar.specs.Weeks.{OnWeekday};
 
@@ -21,7 +21,7 @@ pub enum Weekday {
 impl Date {
     // The days since Monday.
     fn days_since_monday(self) -> u8
-        ensures value { result ≡ weekdayOf (number_of self) }
+        ensures value { result ≡ weekday_of (number_of self) }
         ensures bound { result < 7 }
         ensures laws { EpochIsThursday × WeekdaysTurn }
     {

@@ -9,7 +9,7 @@ use Rattle.arith.specs.Weekdays.{IsMonday, weekday}
 use Rattle.calendar.specs.Spans.{FirstDayOf}
 use Rattle.calendar.specs.declared.period.Period.{Period}
 use Rattle.calendar.specs.declared.period.Period.TheVariants.{Week as OfWeek, Month as OfMonth, Quarter as OfQuarter, Year as OfYear}
-use Rattle.zone.specs.Places.{InReach}
+use Rattle.zone.specs.Places.{WithinReach}
 use Rattle.truncation.specs.Boundaries.{Boundary, MidnightOf}
 use Rattle.truncation.specs.Moments.{Near, OfRange}
 use Rattle.truncation.specs.declared.granularity.Granularity.{Granularity}
@@ -59,7 +59,7 @@ early Quarter = early_midnight OfQuarter
 early Year = early_midnight OfYear
 
 -- a zone can be asked about the second of a boundary of what its clock shows
-pub in_reach : (g : Granularity) (s q : ℤ) (n k : ℕ) → Near s → n < 1_000_000_000 → k < 1_000_000_000 → GreatestNotAfter (Boundary g) (pos 1_000_000_000 *ℤ s +ℤ pos n) (pos 1_000_000_000 *ℤ q +ℤ pos k) → InReach q
+pub in_reach : (g : Granularity) (s q : ℤ) (n k : ℕ) → Near s → n < 1_000_000_000 → k < 1_000_000_000 → GreatestNotAfter (Boundary g) (pos 1_000_000_000 *ℤ s +ℤ pos n) (pos 1_000_000_000 *ℤ q +ℤ pos k) → WithinReach q
 in_reach g s q n k (low, high) hn hk f =
     let a = early g in
     let from = a.1.1 in

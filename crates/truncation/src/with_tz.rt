@@ -2,7 +2,7 @@
 ghost use Rattle.std.specs.Prelude.{◌≡◌, ◌-ℤ◌, MatchResult, ◌≢◌};
 ghost use Rattle.arith.specs.Clock.{LawfulOffset};
 ghost use Rattle.arith.specs.Instants.{OnlyOne};
-ghost use Rattle.zone.specs.Places.{InReach};
+ghost use Rattle.zone.specs.Places.{WithinReach};
 ghost use Rattle.truncation.specs.Boundaries.{OnClock};
 ghost use Rattle.truncation.specs.Moments.{nanos_of, Chosen, OfRange};
 ghost use Rattle.truncation.specs.Truncations.{CutOn, EachFilled, TruncatedIn};
@@ -18,7 +18,7 @@ use zone::{Place, Zone, place_of};
 
 // Of two seconds with a reading, the first if it has the offset that is here at the source, else the second.
 fn of_two(first: i64, second: i64, reading: i64, here: i64) -> i64
-    requires { InReach reading × LawfulOffset here }
+    requires { WithinReach reading × LawfulOffset here }
     ensures { (first ≡ reading -ℤ here → result ≡ first) × ((first ≢ reading -ℤ here) → result ≡ second) }
 {
     if first == reading - here {
@@ -30,7 +30,7 @@ fn of_two(first: i64, second: i64, reading: i64, here: i64) -> i64
 
 // The second of a boundary.
 fn chosen(place: Place, boundary: i64, here: i64) -> i64
-    requires { InReach boundary × LawfulOffset here }
+    requires { WithinReach boundary × LawfulOffset here }
     ensures { Chosen (boundary -ℤ here) place result }
 {
     match place {

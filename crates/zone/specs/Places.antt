@@ -10,7 +10,7 @@ use Rattle.zone.specs.declared.seek.Place.{Place}
 use Rattle.zone.specs.declared.seek.Place.TheVariants.{One, Two, Passed}
 
 -- a zone can be asked about every second at which a clock may pass r
-pub record InReach (r : ℤ) : Type 0 where
+pub record WithinReach (r : ℤ) : Type 0 where
   pub from : InSpan (r -ℤ pos 86_341)
   pub to : InSpan (r +ℤ pos 86_341)
 
@@ -21,8 +21,8 @@ Stands offset r (Passed s) = SkippedBy offset r × Passes offset r s
 
 -- the place of a reading, or 16 exactly out of reach
 abbrev pub PlaceAnswer : (ℤ → ℤ) → ℤ → Result Place Fault → Type 0
-PlaceAnswer offset r (Ok place) = InReach r × Stands offset r place
-PlaceAnswer offset r (Err e) = (InReach r → ⊥) × (e ≡ found OutsideSpan Zone)
+PlaceAnswer offset r (Ok place) = WithinReach r × Stands offset r place
+PlaceAnswer offset r (Err e) = (WithinReach r → ⊥) × (e ≡ found OutsideSpan Zone)
 
 -- of the working functions: whether the clock reads later than r at s, and the second at which it passes r
 abbrev pub LaterAnswer : (ℤ → ℤ) → ℤ → ℤ → Result Bool Fault → Type 0
@@ -30,5 +30,5 @@ LaterAnswer offset s r (Ok later) = InSpan s × Decides later (r <ℤ reads offs
 LaterAnswer offset s r (Err e) = (InSpan s → ⊥) × (e ≡ found OutsideSpan Zone)
 
 abbrev pub PassingAnswer : (ℤ → ℤ) → ℤ → Result ℤ Fault → Type 0
-PassingAnswer offset r (Ok s) = InReach r × Passes offset r s
-PassingAnswer offset r (Err e) = (InReach r → ⊥) × (e ≡ found OutsideSpan Zone)
+PassingAnswer offset r (Ok s) = WithinReach r × Passes offset r s
+PassingAnswer offset r (Err e) = (WithinReach r → ⊥) × (e ≡ found OutsideSpan Zone)

@@ -2,7 +2,7 @@
 ghost use Rattle.std.specs.Prelude.{pos, ◌+ℤ◌, ◌<ℤ◌, Decides};
 ghost use Rattle.arith.specs.Clock.{SkippedBy};
 ghost use Rattle.zone.specs.Spans.{InSpan};
-ghost use Rattle.zone.specs.Places.{InReach, LaterAnswer, PassingAnswer, PlaceAnswer};
+ghost use Rattle.zone.specs.Places.{WithinReach, LaterAnswer, PassingAnswer, PlaceAnswer};
 
 use crate::clock::{Instants, Zone};
 use crate::span::{SPAN, WIDEST, in_span, outside_span};
@@ -20,7 +20,7 @@ pub enum Place {
 const REACH: i64 = WIDEST + 1;
 
 fn in_reach(reading: i64) -> bool
-    ensures { Decides result (InReach reading) }
+    ensures { Decides result (WithinReach reading) }
 {
     REACH - SPAN <= reading && reading <= SPAN - REACH
 }

@@ -1,18 +1,18 @@
 use Rattle.std.proofs.Common.{arith, w64, to_z, of_z, rules}
 use Rattle.std.proofs.lemmas.Int.{ints, to_z-of_z}
 use Rattle.arith.specs.Clock.{SkippedBy}
-use Rattle.zone.specs.Places.{InReach}
+use Rattle.zone.specs.Places.{WithinReach}
 use Rattle.arith.proofs.Narrowing.{widest, lowered, raised}
 use Rattle.zone.proofs.seek.passing_second.Goals as goal
 
 pub loop-later-init : goal.loop-later-init
 loop-later-init g c =
-    let reach : InReach c.args.reading = search rules in
+    let reach : WithinReach c.args.reading = search rules in
     widest _ (g.Z.Zone.laws c.args.zone.now) _ _ _ (omega (arith, ints)) (omega (arith, ints))
 
 pub middle-between-requires : goal.middle-between-requires
 middle-between-requires g c =
-    let reach : InReach c.args.reading = search rules in
+    let reach : WithinReach c.args.reading = search rules in
     ((omega (arith, ints), omega (arith, ints)), ((omega (arith, ints), omega (arith, ints)), omega (arith, ints)))
 
 pub loop-later-preserved-then-branch : goal.loop-later-preserved-then-branch

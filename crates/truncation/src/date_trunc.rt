@@ -54,7 +54,7 @@ pub fn date_trunc_timestamp_value<T: ArrowTimestampType>(
     granularity: Granularity,
     value: Option<i64>,
 ) -> Result<Option<i64>, Fault>
-    ensures { EachFilled (Truncated T.ArrowTimestampType.measure granularity) value result }
+    ensures { EachFilled (Truncated T.measure granularity) value result }
 {
     match value {
         None => Ok(None),

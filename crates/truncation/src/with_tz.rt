@@ -92,7 +92,7 @@ pub fn date_trunc_timestamp_value_with_tz<T: ArrowTimestampType, Z: Zone>(
     granularity: Granularity,
     value: Option<i64>,
 ) -> Result<Option<i64>, Fault>
-    ensures { EachFilled (TruncatedIn (Z.offset zone.now) T.ArrowTimestampType.measure granularity) value result }
+    ensures { EachFilled (TruncatedIn (Z.offset zone.now) T.measure granularity) value result }
 {
     match value {
         None => Ok(None),

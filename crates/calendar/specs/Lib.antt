@@ -3,3 +3,4 @@ pub mod DateTimes
 pub mod Moves
 pub mod Spans
 pub mod Weeks
+pub mod Texts

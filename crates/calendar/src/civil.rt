@@ -7,11 +7,8 @@ ghost use Rattle.calendar.specs.DateTimes.{number_of};
 ghost use Rattle.calendar.specs.Faults.{outside_calendar};
 
 use crate::date::Date;
-use crate::fault::{Fault, outside_calendar};
-
-const FIRST_DAY: i64 = -719_162;
-
-const LAST_DAY: i64 = 2_932_896;
+use crate::day::Day;
+use crate::fault::Fault;
 
 // The days from 0000-03-01 to 1970-01-01.
 const MARCH_TO_EPOCH: i64 = 719_468;
@@ -67,22 +64,20 @@ fn march_date(day: u32) -> Date
     }
 }
 
-// The date of a day of the span.
-fn date_of_day(days: i64) -> Date
-    requires { InSpan days }
-    ensures { OnlyDate days (pos result.year) result.month result.day }
-{
-    march_date((days + MARCH_TO_EPOCH) as u32)
+impl Day {
+    pub(crate) fn date(self) -> Date
+        ensures { OnlyDate self.number (pos result.year) result.month result.day }
+    {
+        march_date((self.number + MARCH_TO_EPOCH) as u32)
+    }
 }
 
 // The date that has the number `days`.
 pub fn civil_from_days(days: i64) -> Result<Date, Fault>
     ensures { MatchResult result (λ t. InSpan days × OnlyDate days (pos t.year) t.month t.day) (λ f. (InSpan days → ⊥) × (f ≡ outside_calendar)) }
 {
-    if days < FIRST_DAY || days > LAST_DAY {
-        return Err(outside_calendar());
-    }
-    Ok(date_of_day(days))
+    let day = Day::new(days)?;
+    Ok(day.date())
 }
 
 // The number of the date, by the year beginning in March that holds it.
@@ -98,13 +93,15 @@ fn march_number(date: Date) -> i64
     (march_start(year) + day_of_year) as i64 - MARCH_TO_EPOCH
 }
 
-// The number of the date.
-pub(crate) fn days_from_date(date: Date) -> i64
-    ensures number { result ≡ number_of date }
-    ensures span { InSpan result }
-    ensures laws { Numbered (pos date.year) date.month date.day result }
-{
-    march_number(date)
+impl Date {
+    pub(crate) fn day(self) -> Day
+        ensures number { result.number ≡ number_of self }
+        ensures laws { Numbered (pos self.year) self.month self.day result.number }
+    {
+        Day {
+            number: march_number(self),
+        }
+    }
 }
 
 // The number of the day of the month of the year, or a refusal where the years 1 to 9999 have no such date.
@@ -112,5 +109,5 @@ pub fn days_from_civil(year: i32, month: u32, day: u32) -> Result<i64, Fault>
     ensures { MatchResult result (λ n. InYears year × InSpan n × Numbered year month day n) (λ f. (InYears year × IsDate year month day → ⊥) × (f ≡ outside_calendar)) }
 {
     let date = Date::new(year, month, day)?;
-    Ok(days_from_date(date))
+    Ok(date.day().number)
 }

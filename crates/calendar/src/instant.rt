@@ -1,29 +1,19 @@
 // Date-times by their instants: nanoseconds since 1970-01-01T00:00:00 in UTC.
 ghost use Rattle.std.specs.Prelude.{◌≡◌, ◌<◌, pos};
 ghost use Rattle.std.specs.Int.{int_div_euclid, int_rem_euclid};
-ghost use Rattle.arith.specs.Gregorian.{InSpan};
-ghost use Rattle.calendar.specs.DateTimes.{instant_of, number_of};
+ghost use Rattle.calendar.specs.DateTimes.{instant_of};
 
-use crate::civil::{civil_from_days, days_from_date};
-use crate::date::Date;
 use crate::date_time::DateTime;
+use crate::day::Day;
 
 const NANOS_PER_DAY: i64 = 86_400_000_000_000;
 
 // The day of an instant. Every day of 64 bits of nanoseconds is one of the calendar's.
-fn day_of(instant: i64) -> i64
-    ensures value { result ≡ int_div_euclid instant (pos 86400000000000) }
-    ensures span { InSpan result }
+fn day_of(instant: i64) -> Day
+    ensures { result.number ≡ int_div_euclid instant (pos 86400000000000) }
 {
-    instant.div_euclid(NANOS_PER_DAY)
-}
-
-fn date_of(instant: i64) -> Date
-    ensures { number_of result ≡ int_div_euclid instant (pos 86400000000000) }
-{
-    match civil_from_days(day_of(instant)) {
-        Ok(date) => date,
-        Err(_) => unreachable(),
+    Day {
+        number: instant.div_euclid(NANOS_PER_DAY),
     }
 }
 
@@ -40,7 +30,7 @@ impl DateTime {
         ensures { instant_of result ≡ instant }
     {
         DateTime {
-            date: date_of(instant),
+            date: day_of(instant).date(),
             nanos: time_of(instant),
         }
     }
@@ -49,6 +39,6 @@ impl DateTime {
     pub fn timestamp_nanos(self) -> i128
         ensures { result ≡ instant_of self }
     {
-        i128::from(days_from_date(self.date)) * 86_400_000_000_000 + i128::from(self.nanos)
+        i128::from(self.date.day().number) * 86_400_000_000_000 + i128::from(self.nanos)
     }
 }

@@ -5,6 +5,7 @@ mod boundary;
 mod civil;
 mod date;
 mod date_time;
+mod day;
 mod fault;
 mod instant;
 mod make;

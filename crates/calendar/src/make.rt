@@ -17,19 +17,14 @@ pub(crate) fn is_leap(year: u16) -> bool
     }
 }
 
-const COMMON_YEAR: [u8; 12] = [31, 28, 31, 30, 31, 30, 31, 31, 30, 31, 30, 31];
-
-const LEAP_YEAR: [u8; 12] = [31, 29, 31, 30, 31, 30, 31, 31, 30, 31, 30, 31];
-
 pub(crate) fn length_of_month(leap_year: bool, month: u8) -> u8
     requires { (1 ≤ month) × (month ≤ 12) }
     ensures { result ≡ month_length leap_year month }
 {
-    let index = (month - 1) as usize;
-    if leap_year {
-        LEAP_YEAR[index]
-    } else {
-        COMMON_YEAR[index]
+    match month {
+        2 => { if leap_year { 29 } else { 28 } }
+        4 | 6 | 9 | 11 => 30,
+        _ => 31,
     }
 }
 

@@ -8,21 +8,18 @@ use crate::date::Date;
 use crate::date_time::DateTime;
 use crate::fault::{Fault, outside_calendar};
 use crate::make::{is_leap, length_of_month};
+use std::ops::Range;
 
-// The months from January of the year 0 to January of the year 1, and to January of the year 10,000.
-const FIRST_MONTH: i64 = 12;
-
-const PAST_LAST_MONTH: i64 = 120_000;
+// The months of the years 1 to 9999, counted from January of the year 0.
+const MONTHS: Range<i64> = 12..120_000;
 
 // The month `months` after the date's, counted from January of the year 0; a refusal where the year leaves 1 to 9999.
 fn shifted_month(date: Date, months: i64) -> Result<u32, Fault>
     ensures { MatchResult result (λ i. (index_after date months ≡ pos i) × (12 ≤ i) × (i < 120000)) (λ f. (IndexInYears (index_after date months) → ⊥) × (f ≡ outside_calendar)) }
 {
     let from = date.year as i64 * 12 + (date.month as i64 - 1);
-    let Some(index) = from.checked_add(months) else {
-        return Err(outside_calendar());
-    };
-    if index < FIRST_MONTH || index >= PAST_LAST_MONTH {
+    let index = from.checked_add(months).ok_or(outside_calendar())?;
+    if !MONTHS.contains(&index) {
         return Err(outside_calendar());
     }
     Ok(index as u32)

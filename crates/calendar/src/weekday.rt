@@ -1,11 +1,13 @@
 // The day of the week.
-ghost use Rattle.std.specs.Prelude.{◌≡◌, ◌<◌};
+ghost use Rattle.std.specs.Prelude.{◌≡◌, ◌<◌, Some};
 ghost use Rattle.arith.specs.Weekdays.{EpochIsThursday, WeekdaysTurn, weekday as weekday_of};
 ghost use Rattle.calendar.specs.DateTimes.{number_of};
+ghost use Rattle.calendar.specs.Texts.{weekday_name};
 ghost use Rattle.calendar.specs.Weeks.{OnWeekday};
 
-use crate::civil::days_from_date;
 use crate::date::Date;
+use crate::day::Day;
+use std::fmt;
 
 #[derive(Clone, Copy, PartialEq, Eq, Debug)]
 pub enum Weekday {
@@ -18,18 +20,41 @@ pub enum Weekday {
     Sunday,
 }
 
-impl Date {
-    // The days since Monday.
-    fn days_since_monday(self) -> u8
-        ensures value { result ≡ weekday_of (number_of self) }
+impl Weekday {
+    fn name(&self) -> &'static str
+        ensures { result.now ≡ weekday_name self.now }
+    {
+        match self {
+            Weekday::Monday => "Mon",
+            Weekday::Tuesday => "Tue",
+            Weekday::Wednesday => "Wed",
+            Weekday::Thursday => "Thu",
+            Weekday::Friday => "Fri",
+            Weekday::Saturday => "Sat",
+            Weekday::Sunday => "Sun",
+        }
+    }
+}
+
+impl fmt::Display for Weekday {
+    ghost output = { λ weekday. Some (weekday_name weekday) };
+
+    fn fmt<W: fmt::Write>(&self, f: &mut fmt::Formatter<W>) -> fmt::Result {
+        f.pad(self.name())
+    }
+}
+
+impl Day {
+    pub(crate) fn days_since_monday(self) -> u8
+        ensures value { result ≡ weekday_of self.number }
         ensures bound { result < 7 }
         ensures laws { EpochIsThursday × WeekdaysTurn }
     {
-        (days_from_date(self) + 3).rem_euclid(7) as u8
+        (self.number + 3).rem_euclid(7) as u8
     }
 
-    pub fn weekday(self) -> Weekday
-        ensures { OnWeekday (number_of self) result }
+    fn weekday(self) -> Weekday
+        ensures { OnWeekday self.number result }
     {
         match self.days_since_monday() {
             0 => Weekday::Monday,
@@ -40,5 +65,13 @@ impl Date {
             5 => Weekday::Saturday,
             _ => Weekday::Sunday,
         }
+    }
+}
+
+impl Date {
+    pub fn weekday(self) -> Weekday
+        ensures { OnWeekday (number_of self) result }
+    {
+        self.day().weekday()
     }
 }

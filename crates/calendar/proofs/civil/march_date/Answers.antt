@@ -1,5 +1,5 @@
 -- The date of a day, in March to December or in January and February.
-use Rattle.std.proofs.Common.{◌≡◌, ℕ, ◌+◌, ◌-◌, ◌*◌, ◌/◌, ◌<◌, ◌≤◌, refl, ap, arith}
+use Rattle.std.proofs.Common.{◌≡◌, ℕ, ◌+◌, ◌-◌, ◌*◌, ◌/◌, ◌<◌, ◌≤◌, refl, ap, arith, rules}
 use Rattle.arith.proofs.March.{march_next, year_long}
 use Rattle.arith.proofs.Numbers.{Found, march_to_december, january_february}
 use Rattle.arith.specs.Gregorian.{leap}
@@ -38,16 +38,7 @@ overflow_cast-result-else-month-lt10-2 c =
     record { fits = omega (arith, march_next y, year_long (leap (lib.IntN.pos (y + 1)))) }
 
 pub invariant_of-result : goal.invariant_of-result
-invariant_of-result c =
-    let f = found c in
-    record {
-      first_year = f.first_year;
-      last_year = f.last_year;
-      first_month = f.first_month;
-      last_month = f.last_month;
-      first_day = f.first_day;
-      last_day = f.last_day;
-    }
+invariant_of-result c = let f = found c in search rules
 
 pub returns : goal.returns
 returns c = (found (at-returns c).Joined-month-lt10).number

@@ -10,20 +10,16 @@ use Rattle.calendar.proofs.shift.shifted_date.Goals as goal
 the_day : (d i r l : ℕ) (b : mathlib.Core.Bool.Bool) → b ≡ leap (pos (i / 12)) → l ≡ month_length b (i % 12 + 1) → r ≡ min d l → r ≡ min d (month_length (leap (pos (i / 12))) (i % 12 + 1))
 the_day d i r l b p q e = e ∙ ap (min d) (q ∙ ap (λ x. month_length x (i % 12 + 1)) p)
 
-pub invariant_of-result : goal.invariant_of-result
-invariant_of-result c =
+pub invariant_of-result-clause-first_day : goal.invariant_of-result-clause-first_day
+invariant_of-result-clause-first_day c =
+    let s = some_day c.is_leap.result (c.in_ok-index.index % 12 + 1) (omega arith) (omega arith) in
+    omega arith
+
+pub invariant_of-result-clause-last_day : goal.invariant_of-result-clause-last_day
+invariant_of-result-clause-last_day c =
     let i = c.in_ok-index.index in
-    let h = c.in_ok-index.ensures in
     let e = the_day c.args.date.day i _ _ _ c.is_leap.ensures c.length_of_month.ensures c.min-day.ensures in
-    let s = some_day (leap (pos (i / 12))) (i % 12 + 1) (omega arith) (omega arith) in
-    record {
-      first_year = omega arith;
-      last_year = omega arith;
-      first_month = omega arith;
-      last_month = omega arith;
-      first_day = omega (arith, c.args.date.first_day);
-      last_day = omega arith;
-    }
+    omega arith
 
 pub returns : goal.returns
 returns c =

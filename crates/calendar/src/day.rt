@@ -3,11 +3,18 @@ ghost use Rattle.std.specs.Prelude.{◌≡◌, MatchResult};
 ghost use Rattle.arith.specs.Gregorian.{InSpan};
 ghost use Rattle.calendar.specs.Faults.{outside_calendar};
 
-use crate::fault::{Fault, outside_calendar};
+use crate::fault::{Cause, Fault, Layer};
 
 const FIRST_DAY: i64 = -719_162;
 
 const LAST_DAY: i64 = 2_932_896;
+
+// A date or a day that the calendar does not have.
+pub(crate) const OUTSIDE_CALENDAR: Fault = Fault {
+    cause: Cause::OutsideSpan,
+    layer: Layer::Calendar,
+    row: None,
+};
 
 #[derive(Clone, Copy)]
 pub(crate) struct Day {
@@ -21,7 +28,7 @@ impl Day {
         ensures { MatchResult result (λ d. d.number ≡ days) (λ f. (InSpan days → ⊥) × (f ≡ outside_calendar)) }
     {
         if days < FIRST_DAY || days > LAST_DAY {
-            return Err(outside_calendar());
+            return Err(OUTSIDE_CALENDAR);
         }
         Ok(Day { number: days })
     }

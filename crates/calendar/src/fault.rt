@@ -1,6 +1,6 @@
 // How a call is refused: the cause, the layer that found it, and the row, if there is one.
 ghost use Rattle.std.specs.Prelude.{◌≡◌, Some};
-ghost use Rattle.calendar.specs.Faults.{cause_number, layer_number, found, outside_calendar};
+ghost use Rattle.calendar.specs.Faults.{cause_number, layer_number, found};
 ghost use Rattle.calendar.specs.Texts.{cause_text, fault_text, layer_name};
 
 use std::error::Error;
@@ -181,10 +181,3 @@ impl fmt::Display for Fault {
 }
 
 impl Error for Fault {}
-
-// A date or a day that the calendar does not have.
-pub(crate) fn outside_calendar() -> Fault
-    ensures { result ≡ outside_calendar }
-{
-    Fault::found(Cause::OutsideSpan, Layer::Calendar)
-}

@@ -4,7 +4,8 @@ ghost use Rattle.arith.specs.Gregorian.{IsDate, InYears, leap, month_length};
 ghost use Rattle.calendar.specs.Faults.{outside_calendar};
 
 use crate::date::Date;
-use crate::fault::{Fault, outside_calendar};
+use crate::day::OUTSIDE_CALENDAR;
+use crate::fault::Fault;
 
 // Whether the year has a 29 February.
 pub(crate) fn is_leap(year: u16) -> bool
@@ -33,7 +34,7 @@ pub fn month_length(year: i32, month: u32) -> Result<u8, Fault>
     ensures { MatchResult result (λ n. (InYears year × (1 ≤ month) × (month ≤ 12)) × (n ≡ month_length (leap year) month)) (λ f. (InYears year × (1 ≤ month) × (month ≤ 12) → ⊥) × (f ≡ outside_calendar)) }
 {
     if year < 1 || year > 9999 || month < 1 || month > 12 {
-        return Err(outside_calendar());
+        return Err(OUTSIDE_CALENDAR);
     }
     Ok(length_of_month(is_leap(year as u16), month as u8))
 }
@@ -45,7 +46,7 @@ impl Date {
     {
         let length = month_length(year, month)?;
         if day < 1 || day > length as u32 {
-            return Err(outside_calendar());
+            return Err(OUTSIDE_CALENDAR);
         }
         Ok(Date {
             year: year as u16,

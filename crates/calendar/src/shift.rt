@@ -6,7 +6,8 @@ ghost use Rattle.calendar.specs.Faults.{outside_calendar};
 
 use crate::date::Date;
 use crate::date_time::DateTime;
-use crate::fault::{Fault, outside_calendar};
+use crate::day::OUTSIDE_CALENDAR;
+use crate::fault::Fault;
 use crate::make::{is_leap, length_of_month};
 use std::ops::Range;
 
@@ -18,9 +19,9 @@ fn shifted_month(date: Date, months: i64) -> Result<u32, Fault>
     ensures { MatchResult result (λ i. (index_after date months ≡ pos i) × (12 ≤ i) × (i < 120000)) (λ f. (IndexInYears (index_after date months) → ⊥) × (f ≡ outside_calendar)) }
 {
     let from = date.year as i64 * 12 + (date.month as i64 - 1);
-    let index = from.checked_add(months).ok_or(outside_calendar())?;
+    let index = from.checked_add(months).ok_or(OUTSIDE_CALENDAR)?;
     if !MONTHS.contains(&index) {
-        return Err(outside_calendar());
+        return Err(OUTSIDE_CALENDAR);
     }
     Ok(index as u32)
 }

@@ -27,7 +27,7 @@ impl Day {
     pub fn new(days: i64) -> Result<Day, Fault>
         ensures { MatchResult result (λ d. d.number ≡ days) (λ f. (InSpan days → ⊥) × (f ≡ outside_calendar)) }
     {
-        if days < FIRST_DAY || days > LAST_DAY {
+        if !(FIRST_DAY..=LAST_DAY).contains(&days) {
             return Err(OUTSIDE_CALENDAR);
         }
         Ok(Day { number: days })

@@ -33,7 +33,7 @@ pub(crate) fn length_of_month(leap_year: bool, month: u8) -> u8
 pub fn month_length(year: i32, month: u32) -> Result<u8, Fault>
     ensures { MatchResult result (λ n. (InYears year × (1 ≤ month) × (month ≤ 12)) × (n ≡ month_length (leap year) month)) (λ f. (InYears year × (1 ≤ month) × (month ≤ 12) → ⊥) × (f ≡ outside_calendar)) }
 {
-    if year < 1 || year > 9999 || month < 1 || month > 12 {
+    if !(1..=9999).contains(&year) || !(1..=12).contains(&month) {
         return Err(OUTSIDE_CALENDAR);
     }
     Ok(length_of_month(is_leap(year as u16), month as u8))
@@ -45,7 +45,7 @@ impl Date {
         ensures { MatchResult result (λ t. (pos t.year ≡ year) × (t.month ≡ month) × (t.day ≡ day)) (λ f. (InYears year × IsDate year month day → ⊥) × (f ≡ outside_calendar)) }
     {
         let length = month_length(year, month)?;
-        if day < 1 || day > length as u32 {
+        if !(1..=u32::from(length)).contains(&day) {
             return Err(OUTSIDE_CALENDAR);
         }
         Ok(Date {

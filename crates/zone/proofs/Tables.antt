@@ -1,102 +1,86 @@
 -- Lawful tables, and the clocks that they stand for.
-use Rattle.std.proofs.Common.{◌≡◌, ℕ, ◌+◌, ◌-◌, ◌<◌, ◌≤◌, true, false, List, length, ℤ, pos, ◌+ℤ◌, ◌-ℤ◌, ◌≤ℤ◌, ◌<ℤ◌, sym, ◌∙◌, subst, arith}
-use lib.Signed.{lt_z}
-use Rattle.std.proofs.lemmas.Int.{ints, by_lt_z}
-use Rattle.std.proofs.lemmas.Bool.{cond-true, cond-false, cond_both}
-use Rattle.arith.specs.Clock.{LawfulOffset, ShownOnce}
-use Rattle.zone.specs.Answers.{Shows}
-use Rattle.zone.specs.declared.clock.Instants.{Instants}
-use Rattle.zone.specs.declared.clock.Instants.TheVariants.{Skipped, One, Two}
-use Rattle.zone.specs.Tables.{nth, FitsAt, Apart, LawfulTable, Passed, offset_by, offset_after, switching}
+use Rattle.std.proofs.Common.{Bool, Decides, int_le, refl, ◌≡◌, ℕ, ◌<◌, ◌≤◌, true, false, List, length, ℤ, pos, ◌+ℤ◌, ◌-ℤ◌, ◌≤ℤ◌, ◌<ℤ◌, arith}
+use Rattle.std.proofs.lemmas.Int.{ints}
+use Rattle.std.proofs.lemmas.List.{get_or_default}
+use Rattle.std.proofs.lemmas.List.Elements.{All-from_get_or}
+use Rattle.std.specs.List.{All, IsAllAdjacentAnswer}
+use Rattle.std.specs.List.Sorted.{IsPartitionedBy, IsPartitionPoint}
+use Rattle.arith.specs.Clock.{LawfulOffset, SkippedBy, ShownOnce, ShownTwice}
+use Rattle.zone.specs.Tables.{nth, Apart, LawfulChange, LawfulTable, Passed, offset_by, offset_after}
 use Rattle.zone.specs.declared.table.Change.{Change}
-use Rattle.zone.specs.declared.table.TableZone.{TableZone}
-use Rattle.arith.proofs.Windows.{Window}
 use Rattle.zone.specs.TableLaws.{not_before, lawful_after, each, changing, settled}
-use Rattle.arith.proofs.Readings.{shown_before, skipped_alike, once_alike, twice_alike}
+use Rattle.arith.proofs.Readings.{shown_twice, shown_before, shown_after, shown_never}
 
-before_more : (k : ℕ) → k + 1 - 1 ≡ k
-before_more k = omega arith
+-- what `nth` gives outside a table
+abbrev pub outside : Change
+outside = record { second = pos 0; offset = pos 0 }
 
-pub table_from_fits : (first : ℤ) (changes : List Change) → length changes ≤ 256 → LawfulOffset first → ((k : ℕ) → k < length changes → FitsAt changes k) → LawfulTable first changes
-table_from_fits first changes few begins fits = record {
-  few = few;
-  begins = begins;
-  minutes = λ k h. (fits k h).0.0;
-  inside = λ k h. (fits k h).0.1;
-  offsets = λ k h. (fits k h).0.2;
-  apart = λ k h. rw before_more at ((fits (k + 1) h).1 (omega arith));
+-- ---- what makes a table lawful, change by change
+
+pub all_lawful : (first : ℤ) (cs : List Change) → LawfulTable first cs → All LawfulChange cs
+all_lawful first cs t = All-from_get_or LawfulChange cs outside (λ k l. (t.minutes k l, t.inside k l, t.offsets k l))
+
+-- by the answer whether each change and the next stand far enough apart
+pub Decides-table : (first : ℤ) (cs : List Change) (r : Bool) → length cs ≤ 256 → LawfulOffset first → All LawfulChange cs → IsAllAdjacentAnswer (λ x y b. b ≡ int_le (x.second +ℤ pos 172_800) y.second) cs r → Decides r (LawfulTable first cs)
+Decides-table first cs true few begins all h = (
+  λ _. record {
+    few = few;
+    begins = begins;
+    minutes = λ k l. (all k _ l).0;
+    inside = λ k l. (all k _ l).1;
+    offsets = λ k l. (all k _ l).2;
+    apart = λ k l. grind (arith, ints, h k outside l);
+  },
+  λ _. refl,
+)
+Decides-table first cs false few begins all (k, l, h) = (λ e. absurd (cc), λ t. grind (arith, ints, h outside, t.apart k l))
+
+-- the changes that have come at a second stand before the others
+pub parted : (cs : List Change) → Apart cs → (s : ℤ) → IsPartitionedBy (λ (c : Change). int_le c.second s) cs
+parted cs apart s i j d l m come = grind (arith, ints, get_or_default cs i d outside, get_or_default cs j d outside, not_before cs apart i j l m)
+
+pub passed_from_point : (cs : List Change) (s : ℤ) (n : ℕ) → n ≤ length cs → IsPartitionPoint (λ (c : Change). int_le c.second s ≡ true) (λ c. int_le c.second s ≡ false) cs n → Passed cs s n
+passed_from_point cs s n most point = record {
+  most = most;
+  gone = λ k h. grind (arith, ints, point.0 k outside);
+  left = λ k h l. grind (arith, ints, point.1 k outside);
 }
 
--- ---- how many changes are not after a second
+-- ---- the seconds with a reading r, where n changes are not after a, the day before it
 
--- between low and high
-pub record Halved (cs : List Change) (s : ℤ) (low high : ℕ) : Type 0 where
-  pub order : low ≤ high
-  pub most : high ≤ length cs
-  pub gone : (k : ℕ) → k < low → (nth cs k).second ≤ℤ s
-  pub left : (k : ℕ) → high ≤ k → k < length cs → s <ℤ (nth cs k).second
-
-pub halved_up : (cs : List Change) → Apart cs → (s : ℤ) (low high m : ℕ) → Halved cs s low high → m < high → (nth cs m).second ≤ℤ s → Halved cs s (m + 1) high
-halved_up cs apart s low high m p h g = record {
-  order = omega arith;
-  most = p.most;
-  gone = λ k l. let most = p.most in let o = not_before cs apart k m (omega arith) (omega arith) in omega (arith, ints);
-  left = p.left;
-}
-
-pub halved_down : (cs : List Change) → Apart cs → (s : ℤ) (low high m : ℕ) → Halved cs s low high → low ≤ m → m < high → s <ℤ (nth cs m).second → Halved cs s low m
-halved_down cs apart s low high m p b h g = record {
-  order = b;
-  most = let most = p.most in omega arith;
-  gone = p.gone;
-  left = λ k l e. let o = not_before cs apart m k l e in omega (arith, ints);
-}
-
--- ---- a clock that goes from one offset to another at a change
-
-pub lawful_switching : (old : ℤ) (c : Change) → LawfulOffset old → LawfulOffset c.offset → (s : ℤ) → LawfulOffset (switching old c s)
-lawful_switching old c lo lc s = cond_both (lt_z s c.second) old c.offset LawfulOffset (λ _. lo) (λ _. lc)
-
-abbrev pub switched : (old : ℤ) (c : Change) (a : ℤ) → Window (switching old c) a
-switched old c a = record {
-  change = c.second;
-  old = old;
-  new = c.offset;
-  before = λ s from to h. let e : true ≡ lt_z s c.second = omega (arith, ints) in cond-true (lt_z s c.second) _ _ (sym e);
-  after = λ s from to h. let e : false ≡ lt_z s c.second = omega (arith, ints) in cond-false (lt_z s c.second) _ _ (sym e);
-}
-
--- two clocks that agree for a day on either side of r answer alike
-shows_alike : (f g : ℤ → ℤ) → ((s : ℤ) → LawfulOffset (f s)) → ((s : ℤ) → LawfulOffset (g s)) → (r : ℤ) → ((s : ℤ) → (r -ℤ pos 86_400) ≤ℤ s → s <ℤ (r +ℤ pos 86_400) → f s ≡ g s) → (x : Instants) → Shows f r x → Shows g r x
-shows_alike f g lf lg r alike Skipped p = skipped_alike f g lf lg r alike p
-shows_alike f g lf lg r alike (One a) p = once_alike f g lf lg r alike a p
-shows_alike f g lf lg r alike (Two a b) p = twice_alike f g lf lg r alike a b p
-
--- ---- the seconds with a reading r: n changes are not after a, the day before it
+-- o is the offset of that day, and c the next change
+pub record Around (offset : ℤ → ℤ) (r o : ℤ) (c : Change) : Type 0 where
+  pub old : LawfulOffset o
+  pub new : LawfulOffset c.offset
+  pub twice : (x y : ℤ) → x ≡ (r -ℤ o) → y ≡ (r -ℤ c.offset) → x <ℤ c.second → c.second ≤ℤ y → ShownTwice offset r x y
+  pub before : (x : ℤ) → x ≡ (r -ℤ o) → x <ℤ c.second → (r -ℤ c.offset) <ℤ c.second → ShownOnce offset r x
+  pub after : (y : ℤ) → y ≡ (r -ℤ c.offset) → c.second ≤ℤ (r -ℤ o) → c.second ≤ℤ y → ShownOnce offset r y
+  pub never : c.second ≤ℤ (r -ℤ o) → (r -ℤ c.offset) <ℤ c.second → SkippedBy offset r
 
 module _ (first : ℤ) (cs : List Change) (t : LawfulTable first cs) (r a : ℤ) (n : ℕ) (day : a ≡ (r -ℤ pos 86_400)) (q : Passed cs a n) where
   from_day : Passed cs (r -ℤ pos 86_400) n
   from_day = rw day at q
 
+  old : LawfulOffset (offset_after first cs n)
+  old = lawful_after first cs t n q.most
+
   pub shown_last : (x : ℤ) → x ≡ (r -ℤ offset_after first cs n) → length cs ≤ n → ShownOnce (offset_by first cs) r x
   shown_last x xe none =
-      let l = lawful_after first cs t n q.most in
-      shown_before (offset_by first cs) (each first cs t) r (settled first cs t (r -ℤ pos 86_400) n from_day none) x x xe xe l l (omega (arith, ints)) (omega (arith, ints))
+      let l = old in
+      shown_before _ (each first cs t) r (settled first cs t _ n from_day none) x x xe xe l l (omega (arith, ints)) (omega (arith, ints))
 
-  alike_around : (x : Instants) → n < length cs → Shows (switching (offset_after first cs n) (nth cs n)) r x → Shows (offset_by first cs) r x
-  alike_around x more =
+  around_next : (more : n < length cs) → Around (offset_by first cs) r (offset_after first cs n) (nth cs n)
+  around_next more =
       let w = changing first cs t (r -ℤ pos 86_400) n from_day more in
-      let v = switched (offset_after first cs n) (nth cs n) (r -ℤ pos 86_400) in
-      shows_alike (switching (offset_after first cs n) (nth cs n)) (offset_by first cs)
-      (lawful_switching (offset_after first cs n) (nth cs n) (lawful_after first cs t n q.most) (t.offsets n more)) (each first cs t) r
-      (λ s from to. by_lt_z s (nth cs n).second
-      (λ h. v.before s from (omega (arith, ints)) h ∙ sym (w.before s from (omega (arith, ints)) h))
-      (λ h. v.after s from (omega (arith, ints)) h ∙ sym (w.after s from (omega (arith, ints)) h)))
-      x
+      let new = t.offsets n more in
+      record {
+        old = old;
+        new = new;
+        twice = λ x y xe ye h k. shown_twice _ (each first cs t) r w x y xe ye old new h k;
+        before = λ x xe h k. shown_before _ (each first cs t) r w x _ xe refl old new h k;
+        after = λ y ye h k. shown_after _ (each first cs t) r w _ y refl ye old new h k;
+        never = λ h k. shown_never _ (each first cs t) r w _ _ refl refl old new h k;
+      }
 
-  pub shown_around : (x : Instants) (o u : ℤ) → o ≡ offset_after first cs n → u ≡ r → n < length cs → Shows (switching o (nth cs n)) u x → Shows (offset_by first cs) r x
-  shown_around x o u oe ue more p = alike_around x more (subst (λ v. Shows (switching (offset_after first cs n) (nth cs n)) v x) ue (subst (λ v. Shows (switching v (nth cs n)) u x) oe p))
-
--- what a table zone carries
-pub table_of : (z : TableZone) → LawfulTable z.first z.changes.now
-table_of z = record { few = z.few; begins = z.begins; minutes = z.minutes; inside = z.inside; offsets = z.offsets; apart = z.apart }
+  pub around : (o : ℤ) (c : Change) → o ≡ offset_after first cs n → c ≡ nth cs n → n < length cs → Around (offset_by first cs) r o c
+  around o c oe ce more = rw (oe, ce) (around_next more)

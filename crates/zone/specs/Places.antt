@@ -24,11 +24,7 @@ abbrev pub PlaceAnswer : (ℤ → ℤ) → ℤ → Result Place Fault → Type 0
 PlaceAnswer offset r (Ok place) = WithinReach r × Stands offset r place
 PlaceAnswer offset r (Err e) = (WithinReach r → ⊥) × (e ≡ found OutsideSpan Zone)
 
--- of the working functions: whether the clock reads later than r at s, and the second at which it passes r
+-- of a working function: whether the clock reads later than r at s
 abbrev pub LaterAnswer : (ℤ → ℤ) → ℤ → ℤ → Result Bool Fault → Type 0
 LaterAnswer offset s r (Ok later) = InSpan s × Decides later (r <ℤ reads offset s)
 LaterAnswer offset s r (Err e) = (InSpan s → ⊥) × (e ≡ found OutsideSpan Zone)
-
-abbrev pub PassingAnswer : (ℤ → ℤ) → ℤ → Result ℤ Fault → Type 0
-PassingAnswer offset r (Ok s) = WithinReach r × Passes offset r s
-PassingAnswer offset r (Err e) = (WithinReach r → ⊥) × (e ≡ found OutsideSpan Zone)

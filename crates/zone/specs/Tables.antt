@@ -1,5 +1,5 @@
 -- A table of changes: what makes it lawful, and the clock that it stands for.
-use Rattle.std.specs.Prelude.{ℕ, zero, suc, ◌+◌, ◌-◌, ◌<◌, ◌≤◌, cond, List, [], ◌∷◌, length, ℤ, pos, ◌+ℤ◌, ◌≤ℤ◌, ◌<ℤ◌, int_lt, slice_index_or}
+use Rattle.std.specs.Prelude.{ℕ, zero, suc, ◌+◌, ◌<◌, ◌≤◌, cond, List, [], ◌∷◌, length, ℤ, pos, ◌+ℤ◌, ◌≤ℤ◌, ◌<ℤ◌, int_lt, slice_index_or}
 use Rattle.arith.specs.Clock.{LawfulOffset, WholeMinutes}
 use Rattle.zone.specs.Spans.{InSpan}
 use Rattle.zone.specs.declared.table.Change.{Change}
@@ -42,10 +42,6 @@ offset_by first (c ∷ changes) s = cond (int_lt s c.second) first (offset_by c.
 -- a change is lawful by itself
 abbrev pub LawfulChange : Change → Type 0
 LawfulChange c = WholeMinutes c.second × InSpan c.second × LawfulOffset c.offset
-
--- the change at a place is lawful, and far enough from the one before
-abbrev pub FitsAt : List Change → ℕ → Type 0
-FitsAt changes k = LawfulChange (nth changes k) × (0 < k → ((nth changes (k - 1)).second +ℤ pos 172_800) ≤ℤ (nth changes k).second)
 
 -- n changes have come at s, and the others have not
 pub record Passed (changes : List Change) (s : ℤ) (n : ℕ) : Type 0 where

@@ -1,14 +1,13 @@
 // A zone with one offset.
 ghost use Rattle.std.specs.Prelude.{◌≡◌, MatchResult};
 ghost use Rattle.arith.specs.Clock.{LawfulOffset, ShownOnce};
-ghost use Rattle.zone.specs.Spans.{InSpan};
 ghost use Rattle.arith.proofs.Windows.{still_lawful};
 ghost use Rattle.calendar.specs.Faults.{found};
 ghost use Rattle.calendar.specs.declared.fault.Cause.TheVariants.{UnfitZoneTable};
 ghost use Rattle.calendar.specs.declared.fault.Layer.TheVariants.{Zone as OfZone};
 
 use crate::clock::{Instants, Zone};
-use crate::span::{in_span, is_lawful, outside_span, unfit};
+use crate::span::{SpanSecond, is_lawful, unfit};
 use calendar::Fault;
 
 #[derive(Clone, Copy)]
@@ -29,11 +28,10 @@ impl FixedZone {
     }
 
     // The one second with a reading.
-    fn instant(&self, reading: i64) -> i64
-        requires { InSpan reading }
-        ensures { ShownOnce (λ _. self.now.seconds) reading result }
+    fn instant(&self, reading: SpanSecond) -> i64
+        ensures { ShownOnce (λ _. self.now.seconds) reading.second result }
     {
-        reading - self.seconds
+        reading.second - self.seconds
     }
 }
 
@@ -43,18 +41,12 @@ impl Zone for FixedZone {
     ghost laws = { λ z. still_lawful z.seconds z.lawful };
 
     fn offset_at(&self, second: i64) -> Result<i64, Fault> {
-        if in_span(second) {
-            Ok(self.seconds)
-        } else {
-            Err(outside_span())
-        }
+        SpanSecond::new(second)?;
+        Ok(self.seconds)
     }
 
     fn instants_of(&self, reading: i64) -> Result<Instants, Fault> {
-        if in_span(reading) {
-            Ok(Instants::One(self.instant(reading)))
-        } else {
-            Err(outside_span())
-        }
+        let reading = SpanSecond::new(reading)?;
+        Ok(Instants::One(self.instant(reading)))
     }
 }

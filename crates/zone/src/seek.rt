@@ -1,11 +1,10 @@
 // What any zone answers, by its two questions.
-ghost use Rattle.std.specs.Prelude.{pos, ◌+ℤ◌, ◌<ℤ◌, Decides};
-ghost use Rattle.arith.specs.Clock.{SkippedBy};
-ghost use Rattle.zone.specs.Spans.{InSpan};
-ghost use Rattle.zone.specs.Places.{WithinReach, LaterAnswer, PassingAnswer, PlaceAnswer};
+ghost use Rattle.std.specs.Prelude.{Decides, MatchResult};
+ghost use Rattle.arith.specs.Clock.{Passes, SkippedBy};
+ghost use Rattle.zone.specs.Places.{WithinReach, LaterAnswer, PlaceAnswer};
 
 use crate::clock::{Instants, Zone};
-use crate::span::{SPAN, WIDEST, in_span, outside_span};
+use crate::span::{SPAN, WIDEST, outside_span};
 use calendar::Fault;
 
 // Where a reading stands on a clock: at the seconds that have it, or else at the second at which the clock passes it.
@@ -22,7 +21,7 @@ const REACH: i64 = WIDEST + 1;
 fn in_reach(reading: i64) -> bool
     ensures { Decides result (WithinReach reading) }
 {
-    REACH - SPAN <= reading && reading <= SPAN - REACH
+    (REACH - SPAN..=SPAN - REACH).contains(&reading)
 }
 
 // Whether the clock reads later than a reading at a second.
@@ -33,26 +32,16 @@ fn reads_later<Z: Zone>(zone: &Z, second: i64, reading: i64) -> Result<bool, Fau
     Ok(reading < second + offset)
 }
 
-// A second between two that are no neighbours.
-fn middle(earlier: i64, later: i64) -> i64
-    requires { (InSpan earlier) × ((InSpan later) × ((earlier +ℤ pos 1) <ℤ later)) }
-    ensures { (earlier <ℤ result) × (result <ℤ later) }
-{
-    earlier + (later - earlier) / 2
-}
-
 // The second at which the clock passes a reading that it skips, by halving.
 fn passing_second<Z: Zone>(zone: &Z, reading: i64) -> Result<i64, Fault>
-    requires { SkippedBy (Z.offset zone.now) reading }
-    ensures { PassingAnswer (Z.offset zone.now) reading result }
+    requires reach { WithinReach reading }
+    requires skipped { SkippedBy (Z.offset zone.now) reading }
+    ensures { MatchResult result (λ s. Passes (Z.offset zone.now) reading s) (λ _. ⊥) }
 {
-    if !in_reach(reading) {
-        return Err(outside_span());
-    }
     let mut earlier = reading - REACH;
     let mut later = reading + REACH;
     while later - earlier > 1 {
-        let between = middle(earlier, later);
+        let between = earlier.midpoint(later);
         if reads_later(zone, between, reading)? {
             later = between;
         } else {

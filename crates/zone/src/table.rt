@@ -1,7 +1,5 @@
 // A zone by a table of changes in the caller's memory.
-ghost use Rattle.std.specs.Prelude.{◌≤◌, length};
-ghost use Rattle.arith.specs.Clock.{LawfulOffset};
-ghost use Rattle.zone.specs.Tables.{Apart, Inside, LawfulOffsets, OnMinutes};
+ghost use Rattle.zone.specs.Tables.{LawfulTable};
 
 pub(crate) mod answers;
 pub(crate) mod fill;
@@ -18,10 +16,5 @@ pub struct Change {
 pub struct TableZone<'a> {
     first: i64,
     changes: &'a [Change],
-    ghost few: { length changes.now ≤ 256 },
-    ghost begins: { LawfulOffset first },
-    ghost minutes: { OnMinutes changes.now },
-    ghost inside: { Inside changes.now },
-    ghost offsets: { LawfulOffsets changes.now },
-    ghost apart: { Apart changes.now },
+    ghost lawful: { LawfulTable first changes.now },
 }

@@ -1,8 +1,10 @@
 // How a table zone is made, and filled again.
-ghost use Rattle.std.specs.Prelude.{◌≡◌, ◌-◌, ◌<◌, [], length, pos, ◌+ℤ◌, ◌≤ℤ◌, Decides};
+ghost use Rattle.std.specs.Prelude.{◌≡◌, [], pos, ◌+ℤ◌, ◌≤ℤ◌, Decides, MatchResult};
+ghost use Rattle.calendar.specs.Faults.{found};
+ghost use Rattle.calendar.specs.declared.fault.Cause.TheVariants.{UnfitZoneTable};
+ghost use Rattle.calendar.specs.declared.fault.Layer.TheVariants.{Zone as OfZone};
 ghost use Rattle.zone.specs.Filling.{FillAnswer};
-ghost use Rattle.zone.specs.Spans.{InSpan};
-ghost use Rattle.zone.specs.Tables.{FitsAt, LawfulChange, LawfulTable, nth};
+ghost use Rattle.zone.specs.Tables.{LawfulChange, LawfulTable};
 
 use crate::span::{in_span, is_lawful, unfit};
 use crate::table::{Change, TableZone};
@@ -14,28 +16,18 @@ const MOST: usize = 256;
 // Neighbours stand no nearer than two days.
 const NEAREST: i64 = 172_800;
 
-fn is_lawful_change(change: Change) -> bool
-    ensures { Decides result (LawfulChange change) }
+fn is_lawful_change(change: &Change) -> bool
+    ensures { Decides result (LawfulChange change.now) }
 {
     in_span(change.second) && change.second % 60 == 0 && is_lawful(change.offset)
 }
 
-fn is_apart(earlier: Change, later: Change) -> bool
-    requires { InSpan earlier.second }
-    ensures { Decides result ((earlier.second +ℤ pos 172800) ≤ℤ later.second) }
+fn is_apart(earlier: i64, later: i64) -> bool
+    ensures { Decides result ((earlier +ℤ pos 172800) ≤ℤ later) }
 {
-    earlier.second + NEAREST <= later.second
-}
-
-// Whether the change at a place is lawful, and far enough from the one before.
-fn fits_at(changes: &[Change], i: usize) -> bool
-    requires { (i < length changes.now) × ((0 < i → InSpan (nth changes.now (i - 1)).second)) }
-    ensures { Decides result (FitsAt changes.now i) }
-{
-    if i > 0 && !is_apart(changes[i - 1], changes[i]) {
-        return false;
-    }
-    is_lawful_change(changes[i])
+    earlier
+        .checked_add(NEAREST)
+        .is_some_and(|nearest| nearest <= later)
 }
 
 fn is_lawful_table(first: i64, changes: &[Change]) -> bool
@@ -44,12 +36,8 @@ fn is_lawful_table(first: i64, changes: &[Change]) -> bool
     if changes.len() > MOST || !is_lawful(first) {
         return false;
     }
-    for i in 0..changes.len() {
-        if !fits_at(changes, i) {
-            return false;
-        }
-    }
-    true
+    changes.iter().all(is_lawful_change)
+        && changes.is_sorted_by(|earlier, later| is_apart(earlier.second, later.second))
 }
 
 impl<'a> TableZone<'a> {
@@ -63,21 +51,22 @@ impl<'a> TableZone<'a> {
         }
     }
 
-    fn of(first: i64, changes: &'a [Change]) -> TableZone<'a>
-        requires { LawfulTable first changes.now }
-        ensures { (result.first ≡ first) × (result.changes.now ≡ changes.now) }
+    // A zone by a table, where the table is lawful.
+    pub fn new(first: i64, changes: &'a [Change]) -> Result<TableZone<'a>, Fault>
+        ensures { MatchResult result (λ z. LawfulTable first changes.now × (z.first ≡ first) × (z.changes.now ≡ changes.now)) (λ e. (LawfulTable first changes.now → ⊥) × (e ≡ found UnfitZoneTable OfZone)) }
     {
-        TableZone { first, changes }
+        if is_lawful_table(first, changes) {
+            Ok(TableZone { first, changes })
+        } else {
+            Err(unfit())
+        }
     }
 
     // Puts another table into the place of this one, or refuses it and stays as it was.
     pub fn fill(&mut self, first: i64, changes: &'a [Change]) -> Result<(), Fault>
         ensures { FillAnswer self.old first changes.now self.new result }
     {
-        if !is_lawful_table(first, changes) {
-            return Err(unfit());
-        }
-        *self = TableZone::of(first, changes);
+        *self = TableZone::new(first, changes)?;
         Ok(())
     }
 }

@@ -1,19 +1,10 @@
-use Rattle.std.proofs.Common.{arith, w64, to_z, of_z, rules}
+use Rattle.std.proofs.Common.{arith, w64}
 use Rattle.std.proofs.lemmas.Int.{ints, to_z-of_z}
-use Rattle.arith.specs.Clock.{SkippedBy}
-use Rattle.zone.specs.Places.{WithinReach}
 use Rattle.arith.proofs.Narrowing.{widest, lowered, raised}
 use Rattle.zone.proofs.seek.passing_second.Goals as goal
 
 pub loop-later-init : goal.loop-later-init
-loop-later-init g c =
-    let reach : WithinReach c.args.reading = search rules in
-    widest _ (g.Z.Zone.laws c.args.zone.now) _ _ _ (omega (arith, ints)) (omega (arith, ints))
-
-pub middle-between-requires : goal.middle-between-requires
-middle-between-requires g c =
-    let reach : WithinReach c.args.reading = search rules in
-    ((omega (arith, ints), omega (arith, ints)), ((omega (arith, ints), omega (arith, ints)), omega (arith, ints)))
+loop-later-init g c = widest _ (g.Z.Zone.laws c.args.zone.now) _ _ _ (omega (arith, ints)) (omega (arith, ints))
 
 pub loop-later-preserved-then-branch : goal.loop-later-preserved-then-branch
 loop-later-preserved-then-branch g c =
@@ -21,5 +12,4 @@ loop-later-preserved-then-branch g c =
 
 pub loop-later-preserved : goal.loop-later-preserved
 loop-later-preserved g c =
-    let skipped : SkippedBy (g.Z.Zone.offset c.args.zone.now) (to_z w64 (of_z w64 c.args.reading)) = rw (to_z-of_z w64 c.args.reading c.ranges.reading) c.requires in
-    raised _ _ _ _ _ skipped c.loop-later.invariant (omega (arith, ints)) (omega (arith, ints)) _ c.in_ok-reads_later.ensures.1 c.if-branch.false
+    raised _ _ _ _ _ (rw (to_z-of_z w64 c.args.reading c.ranges.reading) c.requires.skipped) c.loop-later.invariant (omega (arith, ints)) (omega (arith, ints)) _ c.in_ok-reads_later.ensures.1 c.if-branch.false

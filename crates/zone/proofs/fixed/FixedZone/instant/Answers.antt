@@ -7,8 +7,5 @@ use Rattle.zone.proofs.fixed.FixedZone.instant.Goals as goal
 
 pub returns : goal.returns
 returns c =
-    let o = c.args.self.now.seconds in
-    let r = c.args.reading in
     let lawful = c.args.self.now.lawful in
-    let span = c.requires in
-    shown_before (λ _. o) (λ _. lawful) r (still o (r -ℤ pos 86_400)) _ (r -ℤ o) (omega (arith, ints)) refl lawful lawful (omega (arith, ints)) (omega (arith, ints))
+    shown_before _ (λ _. lawful) _ (still c.args.self.now.seconds (c.args.reading.second -ℤ pos 86_400)) _ _ (omega (arith, ints)) refl lawful lawful (omega (arith, ints)) (omega (arith, ints))

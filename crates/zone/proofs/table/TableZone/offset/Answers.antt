@@ -8,8 +8,5 @@ pub returns : goal.returns
 returns c =
     let z = c.args.self.now in
     let fits = c.ranges.second in
-    let q = simp to_z-of_z at c.passed.ensures in
-    let value = c.offset_after.ensures.value in
-    let lawful = c.offset_after.ensures.lawful in
-    let by = offset_passed z.first z.changes.now c.args.second c.passed.result q in
-    omega (arith, ints)
+    let by = offset_passed z.first z.changes.now c.args.second c.passed.result (simp to_z-of_z at c.passed.ensures) in
+    omega (arith, ints, c.offset_after.ensures.value, c.offset_after.ensures.lawful)

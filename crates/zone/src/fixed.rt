@@ -1,5 +1,5 @@
 // A zone with one offset.
-ghost use Rattle.std.specs.Prelude.{◌≡◌, MatchResult};
+ghost use Rattle.std.specs.Prelude.{◌≡◌, pos, MatchResult};
 ghost use Rattle.arith.specs.Clock.{LawfulOffset, ShownOnce};
 ghost use Rattle.arith.proofs.Windows.{still_lawful};
 ghost use Rattle.calendar.specs.Faults.{found};
@@ -7,7 +7,7 @@ ghost use Rattle.calendar.specs.declared.fault.Cause.TheVariants.{UnfitZoneTable
 ghost use Rattle.calendar.specs.declared.fault.Layer.TheVariants.{Zone as OfZone};
 
 use crate::clock::{Instants, Zone};
-use crate::span::{SpanSecond, is_lawful, unfit};
+use crate::span::{SpanSecond, UNFIT, is_lawful};
 use calendar::Fault;
 
 #[derive(Clone, Copy)]
@@ -17,13 +17,20 @@ pub struct FixedZone {
 }
 
 impl FixedZone {
+    // A zone with no offset.
+    pub fn utc() -> FixedZone
+        ensures { result.seconds ≡ pos 0 }
+    {
+        FixedZone { seconds: 0 }
+    }
+
     pub fn new(seconds: i64) -> Result<FixedZone, Fault>
         ensures { MatchResult result (λ z. z.seconds ≡ seconds) (λ e. (LawfulOffset seconds → ⊥) × (e ≡ found UnfitZoneTable OfZone)) }
     {
         if is_lawful(seconds) {
             Ok(FixedZone { seconds })
         } else {
-            Err(unfit())
+            Err(UNFIT)
         }
     }
 

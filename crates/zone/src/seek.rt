@@ -4,7 +4,7 @@ ghost use Rattle.arith.specs.Clock.{Passes, SkippedBy};
 ghost use Rattle.zone.specs.Places.{WithinReach, LaterAnswer, PlaceAnswer};
 
 use crate::clock::{Instants, Zone};
-use crate::span::{SPAN, WIDEST, outside_span};
+use crate::span::{OUTSIDE_SPAN, SPAN, WIDEST};
 use calendar::Fault;
 
 // Where a reading stands on a clock: at the seconds that have it, or else at the second at which the clock passes it.
@@ -56,7 +56,7 @@ pub fn place_of<Z: Zone>(zone: &Z, reading: i64) -> Result<Place, Fault>
     ensures { PlaceAnswer (Z.offset zone.now) reading result }
 {
     if !in_reach(reading) {
-        return Err(outside_span());
+        return Err(OUTSIDE_SPAN);
     }
     Ok(match zone.instants_of(reading)? {
         Instants::One(a) => Place::One(a),

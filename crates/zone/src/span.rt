@@ -2,7 +2,7 @@
 ghost use Rattle.std.specs.Prelude.{◌≡◌, Decides, MatchResult};
 ghost use Rattle.arith.specs.Clock.{LawfulOffset};
 ghost use Rattle.calendar.specs.Faults.{found};
-ghost use Rattle.calendar.specs.declared.fault.Cause.TheVariants.{OutsideSpan, UnfitZoneTable};
+ghost use Rattle.calendar.specs.declared.fault.Cause.TheVariants.{OutsideSpan};
 ghost use Rattle.calendar.specs.declared.fault.Layer.TheVariants.{Zone};
 ghost use Rattle.zone.specs.Spans.{InSpan};
 
@@ -13,6 +13,20 @@ pub(crate) const SPAN: i64 = 9_300_000_000;
 
 // No offset is greater.
 pub(crate) const WIDEST: i64 = 86_340;
+
+// A second or a reading that a zone is not asked about.
+pub(crate) const OUTSIDE_SPAN: Fault = Fault {
+    cause: Cause::OutsideSpan,
+    layer: Layer::Zone,
+    row: None,
+};
+
+// An offset or a table of no zone.
+pub(crate) const UNFIT: Fault = Fault {
+    cause: Cause::UnfitZoneTable,
+    layer: Layer::Zone,
+    row: None,
+};
 
 // A second or a reading inside the span.
 #[derive(Clone, Copy)]
@@ -28,23 +42,9 @@ impl SpanSecond {
         if in_span(second) {
             Ok(SpanSecond { second })
         } else {
-            Err(outside_span())
+            Err(OUTSIDE_SPAN)
         }
     }
-}
-
-// A second or a reading that a zone is not asked about.
-pub(crate) fn outside_span() -> Fault
-    ensures { result ≡ found OutsideSpan Zone }
-{
-    Fault::found(Cause::OutsideSpan, Layer::Zone)
-}
-
-// An offset or a table of no zone.
-pub(crate) fn unfit() -> Fault
-    ensures { result ≡ found UnfitZoneTable Zone }
-{
-    Fault::found(Cause::UnfitZoneTable, Layer::Zone)
 }
 
 pub(crate) fn in_span(second: i64) -> bool

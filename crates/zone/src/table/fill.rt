@@ -6,7 +6,7 @@ ghost use Rattle.calendar.specs.declared.fault.Layer.TheVariants.{Zone as OfZone
 ghost use Rattle.zone.specs.Filling.{FillAnswer};
 ghost use Rattle.zone.specs.Tables.{LawfulChange, LawfulTable};
 
-use crate::span::{in_span, is_lawful, unfit};
+use crate::span::{UNFIT, in_span, is_lawful};
 use crate::table::{Change, TableZone};
 use calendar::Fault;
 
@@ -58,7 +58,7 @@ impl<'a> TableZone<'a> {
         if is_lawful_table(first, changes) {
             Ok(TableZone { first, changes })
         } else {
-            Err(unfit())
+            Err(UNFIT)
         }
     }
 

@@ -9,6 +9,6 @@ use truncation::Granularity;
 pub(crate) fn name(heap: Global, mut words: Words) -> Result<Answer, Refusal> {
     let name = words.name(heap)?;
     words.end()?;
-    let granularity = Granularity::from_name(name.as_slice())?;
+    let granularity = Granularity::try_from(name.as_slice())?;
     Ok(Answer::Name(granularity))
 }

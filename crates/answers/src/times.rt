@@ -9,8 +9,8 @@ use crate::words::Words;
 use calendar::Fault;
 use std::alloc::Global;
 use truncation::{
-    Granularity, TimeUnit, truncate_time_micros, truncate_time_millis, truncate_time_nanos,
-    truncate_time_secs,
+    Granularity, Time32MillisecondType, Time32SecondType, Time64MicrosecondType,
+    Time64NanosecondType, TimeUnit, truncate_time,
 };
 
 // A time of day, in the width of its unit.
@@ -26,22 +26,10 @@ enum Time {
 fn narrow(value: Option<i64>) -> Result<Option<i32>, Refusal>
     ensures { MatchResult result (λ same. same ≡ value) (λ _. Narrow value → ⊥) }
 {
-    match value {
-        None => Ok(None),
-        Some(value) => match i32::try_from(value) {
-            Ok(value) => Ok(Some(value)),
-            Err(_) => Err(Refusal::BadRequest),
-        },
-    }
-}
-
-fn wide(value: Option<i32>) -> Option<i64>
-    ensures { result ≡ value }
-{
-    match value {
-        None => None,
-        Some(value) => Some(i64::from(value)),
-    }
+    value
+        .map(i32::try_from)
+        .transpose()
+        .map_err(|_| Refusal::BadRequest)
 }
 
 impl Time {
@@ -60,10 +48,16 @@ impl Time {
         ensures { TruncatedTime granularity (unit_of self) (value_of self) result }
     {
         match self {
-            Time::Seconds(value) => Ok(wide(truncate_time_secs(granularity, value)?)),
-            Time::Millis(value) => Ok(wide(truncate_time_millis(granularity, value)?)),
-            Time::Micros(value) => truncate_time_micros(granularity, value),
-            Time::Nanos(value) => truncate_time_nanos(granularity, value),
+            Time::Seconds(value) => {
+                let start = truncate_time::<Time32SecondType>(granularity, value)?;
+                Ok(start.map(i64::from))
+            }
+            Time::Millis(value) => {
+                let start = truncate_time::<Time32MillisecondType>(granularity, value)?;
+                Ok(start.map(i64::from))
+            }
+            Time::Micros(value) => truncate_time::<Time64MicrosecondType>(granularity, value),
+            Time::Nanos(value) => truncate_time::<Time64NanosecondType>(granularity, value),
         }
     }
 }
@@ -75,7 +69,7 @@ pub(crate) fn time_scalar(heap: Global, mut words: Words) -> Result<Answer, Refu
     let value = words.value()?;
     words.end()?;
     let time = Time::of(unit, value)?;
-    let granularity = Granularity::from_name(name.as_slice())?;
+    let granularity = Granularity::try_from(name.as_slice())?;
     let start = time.truncated(granularity)?;
     Ok(Answer::Value(start))
 }

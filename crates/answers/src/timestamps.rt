@@ -40,7 +40,7 @@ pub(crate) fn trunc_scalar(heap: Global, mut words: Words) -> Result<Answer, Ref
     words.no_zone()?;
     let value = words.value()?;
     words.end()?;
-    let granularity = Granularity::from_name(name.as_slice())?;
+    let granularity = Granularity::try_from(name.as_slice())?;
     let start = truncated(unit, granularity, value)?;
     Ok(Answer::Value(start))
 }

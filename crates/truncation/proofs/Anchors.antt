@@ -1,5 +1,6 @@
 -- A boundary of each granularity below all that a clock shows at instants of 64 bits: so no boundary of such a reading lies far below it.
-use Rattle.std.proofs.Common.{◌≡◌, ℕ, ◌%◌, ◌<◌, ℤ, pos, ◌+ℤ◌, ◌*ℤ◌, neg_ℤ, ◌≤ℤ◌, sym, refl, arith}
+use Rattle.std.proofs.Common.{◌≡◌, ℕ, ◌%◌, ◌<◌, ℤ, pos, ◌+ℤ◌, ◌*ℤ◌, neg_ℤ, ◌≤ℤ◌, sym, refl, arith, lit<}
+use Rattle.arith.proofs.Floors.{quot, floor_is}
 use Rattle.std.proofs.lemmas.Int.{ints}
 use Rattle.arith.specs.Clock.{LawfulOffset}
 use Rattle.arith.specs.Greatest.{GreatestNotAfter, MultipleOf}
@@ -11,7 +12,7 @@ use Rattle.calendar.specs.declared.period.Period.{Period}
 use Rattle.calendar.specs.declared.period.Period.TheVariants.{Week as OfWeek, Month as OfMonth, Quarter as OfQuarter, Year as OfYear}
 use Rattle.zone.specs.Places.{WithinReach}
 use Rattle.truncation.specs.Boundaries.{Boundary, MidnightOf}
-use Rattle.truncation.specs.Moments.{Near, OfRange}
+use Rattle.truncation.specs.Moments.{InReach, Near, OfRange}
 use Rattle.truncation.specs.declared.granularity.Granularity.{Granularity}
 use Rattle.truncation.specs.declared.granularity.Granularity.TheVariants.{Microsecond, Millisecond, Second, Minute, Hour, Day, Week, Month, Quarter, Year}
 
@@ -32,6 +33,17 @@ early_day OfWeek = (neg_ℤ (pos 107_019), (monday, omega (arith, ints), omega (
 early_day OfMonth = (neg_ℤ (pos 107_015), (new_year 1 refl, omega (arith, ints), omega (arith, ints)))
 early_day OfQuarter = (neg_ℤ (pos 107_015), (new_year 3 refl, omega (arith, ints), omega (arith, ints)))
 early_day OfYear = (neg_ℤ (pos 107_015), (new_year 12 refl, omega (arith, ints), omega (arith, ints)))
+
+-- the first day of the period of what a clock shows is near
+pub day_in_reach : (p : Period) (s d : ℤ) → Near s → GreatestNotAfter (FirstDayOf p) (quot s 86_400) d → InReach d
+day_in_reach p s d (low, high) g =
+    let f = floor_is s 86_400 (lit< tt) in
+    let a = early_day p in
+    let from = a.1.1 in
+    let to = a.1.2 in
+    let l = g.greatest a.0 a.1.0 (omega (arith, ints, f.0, f.1)) in
+    let h = g.not_after in
+    (omega (arith, ints), omega (arith, ints, f.0, f.1))
 
 abbrev Early : (ℤ → Type 0) → Type 0
 Early P = (t : ℤ) × (P t × (neg_ℤ (pos 9_246_441_600_000_000_000) ≤ℤ t) × (t ≤ℤ neg_ℤ (pos 9_246_096_000_000_000_000)))

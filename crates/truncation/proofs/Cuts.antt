@@ -1,16 +1,13 @@
 -- Moments cut to fixed lengths and to midnights, in nanoseconds.
-use Rattle.std.proofs.Common.{◌≡◌, ℕ, ◌+◌, ◌-◌, ◌*◌, ◌%◌, ◌<◌, ◌≤◌, ℤ, pos, ◌+ℤ◌, ◌-ℤ◌, ◌*ℤ◌, neg_ℤ, sym, refl, subst, inl, inr, arith, lit<}
+use Rattle.std.proofs.Common.{◌≡◌, ℕ, ◌+◌, ◌-◌, ◌*◌, ◌%◌, ◌<◌, ◌≤◌, ℤ, pos, ◌+ℤ◌, ◌-ℤ◌, ◌*ℤ◌, sym, subst, inl, inr, arith, lit<}
 use borrow.Author.Differences.{ints}
 use Rattle.std.specs.Int.{int_rem_euclid}
 use Rattle.arith.proofs.Floors.{rem, quot, floor_is, rem_is}
 use Rattle.arith.proofs.Lift.{lift, greatest_whole}
 use Rattle.arith.proofs.Multiples.{floor_unique}
 use Rattle.arith.specs.Greatest.{GreatestNotAfter, MultipleOf}
-use Rattle.arith.specs.Gregorian.{day_number, year_start, days_before, leap, days_in_years}
-use Rattle.arith.specs.Periods.{IsFirstDay}
-use Rattle.arith.specs.Weekdays.{IsMonday, weekday}
 use Rattle.truncation.specs.Boundaries.{MidnightOf}
-use Rattle.truncation.specs.Moments.{PartOfSecond, WholeSeconds, InReach, Near}
+use Rattle.truncation.specs.Moments.{PartOfSecond, WholeSeconds}
 
 -- the nanoseconds of a second and n more
 abbrev at : ℤ → ℕ → ℤ
@@ -41,22 +38,3 @@ midnight_of P s d b n h g e =
     let r : ℕ = 1_000_000_000 * rem s 86_400 + n in
     let q = (floor_unique (at s n) (quot s 86_400) 86_400_000_000_000 r (omega (arith, f.1)) (omega (arith, ints, f.0))).0 in
     subst (GreatestNotAfter (MidnightOf P) (at s n)) (sym e) (lift P 86_400_000_000_000 (at s n) d (lit< tt) (subst (λ z. GreatestNotAfter P z d) (sym q) g))
-
--- ---- 1674-01-01 is a Monday, and so the first day of a week, a month, a quarter and a year: boundaries of instants of 64 bits do not lie before it
-pub monday : IsMonday (neg_ℤ (pos 108_111))
-unfolding weekday
-monday = refl
-
-number_of_1674 : day_number (pos 1_674) 1 1 ≡ neg_ℤ (pos 108_111)
-unfolding day_number year_start days_before leap days_in_years
-number_of_1674 = refl
-
-pub new_year : (k : ℕ) → 0 % k ≡ 0 → IsFirstDay k (neg_ℤ (pos 108_111))
-new_year k e = record { year = pos 1_674; month = 1; first_month = omega arith; last_month = omega arith; begins = e; number = sym number_of_1674 }
-
-pub day_in_reach : (P : ℤ → Type 0) (s d : ℤ) → P (neg_ℤ (pos 108_111)) → Near s → GreatestNotAfter P (quot s 86_400) d → InReach d
-day_in_reach P s d p (low, high) g =
-    let f = floor_is s 86_400 (lit< tt) in
-    let l = g.greatest (neg_ℤ (pos 108_111)) p (omega (arith, ints, f.0, f.1)) in
-    let h = g.not_after in
-    (omega (arith, ints), omega (arith, ints, f.0, f.1))

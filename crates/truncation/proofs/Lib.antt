@@ -1,3 +1,4 @@
+pub mod Letters
 pub mod Folds
 pub mod WholeUnits
 pub mod Truncated

@@ -8,6 +8,7 @@ use Rattle.calendar.specs.declared.fault.Layer.TheVariants.{Truncation}
 use Rattle.truncation.specs.Units.{scale}
 use Rattle.truncation.specs.declared.granularity.Granularity.{Granularity}
 use Rattle.truncation.specs.declared.granularity.Granularity.TheVariants.{Microsecond, Millisecond, Second, Minute, Hour, Day, Week, Month, Quarter, Year}
+use Rattle.truncation.specs.declared.length.Length.{Length}
 use Rattle.truncation.specs.declared.unit.TimeUnit.{TimeUnit}
 
 -- so many nanoseconds in whole units, at least one
@@ -32,18 +33,23 @@ pub record TowardZero (k : ℕ) (v r : ℤ) : Type 0 where
   pub forward : pos 0 ≤ℤ v → GreatestNotAfter (MultipleOf k) v r
   pub mirrored : v ≤ℤ pos 0 → GreatestNotAfter (MultipleOf k) (neg_ℤ v) (neg_ℤ r)
 
--- a time of day cut to lengths of k units; an empty value stays empty; where there is no length, whatever the value, it is too coarse
-abbrev pub CutTo : Option ℕ → Option ℤ → Result (Option ℤ) Fault → Type 0
-CutTo None v r = r ≡ Err (found TimeTooCoarse Truncation)
-CutTo (Some k) None r = r ≡ Ok None
-CutTo (Some k) (Some v) (Ok (Some r)) = TowardZero k v r
-CutTo (Some k) (Some v) (Ok None) = ⊥
-CutTo (Some k) (Some v) (Err e) = ⊥
+-- a time of day cut to lengths of k units, by the numbers of its values; an empty value stays empty; where there is no length, whatever the value, it is too coarse
+abbrev pub CutTo : {N : Type 0} → (N → ℤ) → Option ℕ → Option N → Result (Option N) Fault → Type 0
+CutTo f None v r = r ≡ Err (found TimeTooCoarse Truncation)
+CutTo f (Some k) None r = r ≡ Ok None
+CutTo f (Some k) (Some v) (Ok (Some r)) = TowardZero k (f v) (f r)
+CutTo f (Some k) (Some v) (Ok None) = ⊥
+CutTo f (Some k) (Some v) (Err e) = ⊥
+
+abbrev pub TruncatedTimeBy : {N : Type 0} → (N → ℤ) → Granularity → TimeUnit → Option N → Result (Option N) Fault → Type 0
+TruncatedTimeBy f g u v r = CutTo f (units_in g u) v r
 
 abbrev pub TruncatedTime : Granularity → TimeUnit → Option ℤ → Result (Option ℤ) Fault → Type 0
-TruncatedTime g u v r = CutTo (units_in g u) v r
+TruncatedTime g u v r = TruncatedTimeBy (λ z. z) g u v r
 
 -- what the code asks of a length
-abbrev pub length_answer : Option ℕ → Result ℤ Fault
-length_answer (Some k) = Ok (pos k)
-length_answer None = Err (found TimeTooCoarse Truncation)
+abbrev pub LengthAnswer : Option ℕ → Result Length Fault → Type 0
+LengthAnswer (Some k) (Ok l) = l.units ≡ pos k
+LengthAnswer (Some k) (Err e) = ⊥
+LengthAnswer None (Ok l) = ⊥
+LengthAnswer None (Err e) = e ≡ found TimeTooCoarse Truncation

@@ -4,17 +4,22 @@
 mod boundary;
 mod date_trunc;
 mod granularity;
+mod length;
 mod moment;
 mod name;
+mod reading;
 mod readings;
 mod time;
+mod time_type;
 mod unit;
 mod with_tz;
 
 pub use date_trunc::{date_trunc_timestamp_value, general_date_trunc};
 pub use granularity::Granularity;
-pub use time::{
-    truncate_time_micros, truncate_time_millis, truncate_time_nanos, truncate_time_secs,
+pub use time::truncate_time;
+pub use time_type::{
+    ArrowTimeType, Time32MillisecondType, Time32SecondType, Time64MicrosecondType,
+    Time64NanosecondType,
 };
 pub use unit::{
     ArrowTimestampType, TimeUnit, TimestampMicrosecondType, TimestampMillisecondType,

@@ -1,9 +1,11 @@
 // Granularities by their names, in any mix of letter case.
-ghost use Rattle.std.specs.Prelude.{◌≡◌, [], ◌∷◌, Decides, MatchOption};
+ghost use Rattle.std.specs.Prelude.{◌≡◌, [], ◌∷◌, Some, Decides, MatchOption};
+ghost use Rattle.std.specs.Iterator.{YieldsFirst, item_count};
 ghost use Rattle.truncation.specs.Names.{Read, folded, name_of};
 
 use crate::granularity::Granularity;
 use calendar::{Cause, Fault, Layer};
+use std::fmt;
 
 // The first letter of a name, lowered, and the bytes after it. The Kelvin sign reads as k.
 fn letter(name: &[u8]) -> Option<(u8, &[u8])>
@@ -16,66 +18,60 @@ fn letter(name: &[u8]) -> Option<(u8, &[u8])>
     }
 }
 
+// The letters of a name that are not read yet.
+#[derive(Drop)]
+struct Letters<'a>(&'a [u8]);
+
+impl<'a> Iterator for Letters<'a> {
+    type Item = u8;
+
+    ghost next_gives = { YieldsFirst (λ s. folded s.0.now) };
+
+    ghost remaining = { item_count (λ s. folded s.0.now) };
+
+    fn next(&mut self) -> Option<u8> {
+        let (byte, rest) = letter(self.0)?;
+        self.0 = rest;
+        Some(byte)
+    }
+}
+
 // Whether a name reads as a word of lower case.
 fn reads_as(name: &[u8], word: &[u8]) -> bool
     ensures { Decides result (folded name.now ≡ word.now) }
 {
-    let mut rest = name;
-    let mut i = 0;
-    while i < word.len() {
-        let Some((byte, after)) = letter(rest) else {
-            return false;
-        };
-        if byte != word[i] {
-            return false;
-        }
-        rest = after;
-        i += 1;
-    }
-    match letter(rest) {
-        None => true,
-        Some(_) => false,
+    Letters(name).eq(word.iter().copied())
+}
+
+const SUPPORTED_GRANULARITIES: [Granularity; 10] = [
+    Granularity::Microsecond,
+    Granularity::Millisecond,
+    Granularity::Second,
+    Granularity::Minute,
+    Granularity::Hour,
+    Granularity::Day,
+    Granularity::Week,
+    Granularity::Month,
+    Granularity::Quarter,
+    Granularity::Year,
+];
+
+impl<'a> TryFrom<&'a [u8]> for Granularity {
+    type Error = Fault;
+
+    ghost try_from_gives = { λ name r. Read name.now r };
+
+    // The granularity of a name.
+    fn try_from(name: &'a [u8]) -> Result<Granularity, Fault> {
+        SUPPORTED_GRANULARITIES
+            .iter()
+            .copied()
+            .find(|granularity| reads_as(name, granularity.name().as_bytes()))
+            .ok_or(Fault::found(Cause::UnknownName, Layer::Truncation))
     }
 }
 
 impl Granularity {
-    // The granularity of a name.
-    pub fn from_name(name: &[u8]) -> Result<Granularity, Fault>
-        ensures { Read name.now result }
-    {
-        if reads_as(name, b"microsecond") {
-            return Ok(Granularity::Microsecond);
-        }
-        if reads_as(name, b"millisecond") {
-            return Ok(Granularity::Millisecond);
-        }
-        if reads_as(name, b"second") {
-            return Ok(Granularity::Second);
-        }
-        if reads_as(name, b"minute") {
-            return Ok(Granularity::Minute);
-        }
-        if reads_as(name, b"hour") {
-            return Ok(Granularity::Hour);
-        }
-        if reads_as(name, b"day") {
-            return Ok(Granularity::Day);
-        }
-        if reads_as(name, b"week") {
-            return Ok(Granularity::Week);
-        }
-        if reads_as(name, b"month") {
-            return Ok(Granularity::Month);
-        }
-        if reads_as(name, b"quarter") {
-            return Ok(Granularity::Quarter);
-        }
-        if reads_as(name, b"year") {
-            return Ok(Granularity::Year);
-        }
-        Err(Fault::found(Cause::UnknownName, Layer::Truncation))
-    }
-
     // The name, in lower case.
     pub fn name(self) -> &'static str
         ensures { result.now ≡ name_of self }
@@ -92,5 +88,13 @@ impl Granularity {
             Granularity::Quarter => "quarter",
             Granularity::Year => "year",
         }
+    }
+}
+
+impl fmt::Display for Granularity {
+    ghost output = { λ granularity. Some (name_of granularity) };
+
+    fn fmt<W: fmt::Write>(&self, f: &mut fmt::Formatter<W>) -> fmt::Result {
+        f.pad(self.name())
     }
 }

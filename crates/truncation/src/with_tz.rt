@@ -1,5 +1,5 @@
 // Timestamps cut on the clock of a zone.
-ghost use Rattle.std.specs.Prelude.{◌≡◌, ◌-ℤ◌, MatchResult, ◌≢◌};
+ghost use Rattle.std.specs.Prelude.{◌≡◌, ◌-ℤ◌, MatchResult};
 ghost use Rattle.arith.specs.Clock.{LawfulOffset};
 ghost use Rattle.arith.specs.Instants.{OnlyOne};
 ghost use Rattle.zone.specs.Places.{WithinReach};
@@ -9,33 +9,22 @@ ghost use Rattle.truncation.specs.Truncations.{CutOn, EachFilled, TruncatedIn};
 ghost use Rattle.truncation.specs.Units.{InUnits, KeepsUnits};
 
 use crate::boundary::date_trunc_coarse;
-use crate::date_trunc::{in_unit, scaled};
 use crate::granularity::Granularity;
 use crate::moment::Moment;
+use crate::reading::Reading;
 use crate::unit::{ArrowTimestampType, TimeUnit};
 use calendar::Fault;
 use zone::{Place, Zone, place_of};
 
-// Of two seconds with a reading, the first if it has the offset that is here at the source, else the second.
-fn of_two(first: i64, second: i64, reading: i64, here: i64) -> i64
-    requires { WithinReach reading × LawfulOffset here }
-    ensures { (first ≡ reading -ℤ here → result ≡ first) × ((first ≢ reading -ℤ here) → result ≡ second) }
-{
-    if first == reading - here {
-        first
-    } else {
-        second
-    }
-}
-
-// The second of a boundary.
+// The second of a boundary: of two, the first if it has the offset that is here at the source, else the second.
 fn chosen(place: Place, boundary: i64, here: i64) -> i64
     requires { WithinReach boundary × LawfulOffset here }
     ensures { Chosen (boundary -ℤ here) place result }
 {
     match place {
         Place::One(second) => second,
-        Place::Two(first, second) => of_two(first, second, boundary, here),
+        Place::Two(first, _) if first == boundary - here => first,
+        Place::Two(_, second) => second,
         Place::Passed(second) => second,
     }
 }
@@ -50,7 +39,7 @@ fn date_trunc_coarse_with_tz<Z: Zone>(
     ensures { MatchResult result (λ m. OnlyOne (OnClock (Z.offset zone.now) granularity (nanos_of at)) (nanos_of m) × KeepsUnits (nanos_of at) (nanos_of m)) (λ f. ⊥) }
 {
     let here = zone.offset_at(at.second)?;
-    let found = date_trunc_coarse(granularity, at.ahead(here))?;
+    let found = date_trunc_coarse(granularity, Reading::of(at, here))?;
     let place = place_of(zone, found.second)?;
     Ok(Moment {
         second: chosen(place, found.second, here),
@@ -70,7 +59,7 @@ fn instant_trunc_with_tz<Z: Zone>(
 {
     let at = Moment::of(instant);
     let start = date_trunc_coarse_with_tz(zone, granularity, at)?.instant()?;
-    Ok(in_unit(unit, start))
+    Ok(unit.whole(start))
 }
 
 // A value of the unit.
@@ -82,7 +71,7 @@ pub fn general_date_trunc_with_tz<Z: Zone>(
 ) -> Result<i64, Fault>
     ensures { TruncatedIn (Z.offset zone.now) unit granularity value result }
 {
-    let instant = scaled(unit, value)?;
+    let instant = unit.scaled(value)?;
     instant_trunc_with_tz(zone, unit, granularity, instant)
 }
 
@@ -94,8 +83,7 @@ pub fn date_trunc_timestamp_value_with_tz<T: ArrowTimestampType, Z: Zone>(
 ) -> Result<Option<i64>, Fault>
     ensures { EachFilled (TruncatedIn (Z.offset zone.now) T.measure granularity) value result }
 {
-    match value {
-        None => Ok(None),
-        Some(value) => Ok(Some(general_date_trunc_with_tz(zone, T::unit(), granularity, value)?)),
-    }
+    value
+        .map(|value| general_date_trunc_with_tz(zone, T::unit(), granularity, value))
+        .transpose()
 }

@@ -86,7 +86,7 @@ fn unit_of(word: &str) -> Result<TimeUnit, BadArgument<'_>>
 fn granularity_of(name: &str) -> Result<Granularity, BadArgument<'_>>
     ensures { MatchResult result (λ g. folded name.now ≡ name_of g) (λ _. (g : Granularity) → folded name.now ≢ name_of g) }
 {
-    match Granularity::from_name(name.as_bytes()) {
+    match Granularity::try_from(name.as_bytes()) {
         Ok(granularity) => Ok(granularity),
         Err(fault) => Err(BadArgument::UnknownGranularity(name, fault)),
     }

@@ -1,14 +1,17 @@
 -- Lawful tables, and the clocks that they stand for.
-use Rattle.std.proofs.Common.{Bool, Decides, int_le, refl, ◌≡◌, ℕ, ◌<◌, ◌≤◌, true, false, List, length, ℤ, pos, ◌+ℤ◌, ◌-ℤ◌, ◌≤ℤ◌, ◌<ℤ◌, arith}
+use Rattle.std.proofs.Common.{Bool, Decides, int_le, refl, ◌≡◌, ℕ, ◌<◌, ◌≤◌, true, false, List, length, ℤ, pos, ◌+ℤ◌, ◌-ℤ◌, ◌≤ℤ◌, ◌<ℤ◌, sym, arith}
+use lib.Signed.{lt_z}
 use Rattle.std.proofs.lemmas.Int.{ints}
+use Rattle.std.proofs.lemmas.Bool.{cond-true, cond-false, cond_both}
 use Rattle.std.proofs.lemmas.List.{get_or_default}
 use Rattle.std.proofs.lemmas.List.Elements.{All-from_get_or}
 use Rattle.std.specs.List.{All, IsAllAdjacentAnswer}
 use Rattle.std.specs.List.Sorted.{IsPartitionedBy, IsPartitionPoint}
 use Rattle.arith.specs.Clock.{LawfulOffset, SkippedBy, ShownOnce, ShownTwice}
-use Rattle.zone.specs.Tables.{nth, Apart, LawfulChange, LawfulTable, Passed, offset_by, offset_after}
+use Rattle.zone.specs.Tables.{nth, Apart, LawfulChange, LawfulTable, Passed, offset_by, offset_after, switching}
 use Rattle.zone.specs.declared.table.Change.{Change}
 use Rattle.zone.specs.TableLaws.{not_before, lawful_after, each, changing, settled}
+use Rattle.arith.proofs.Windows.{Window}
 use Rattle.arith.proofs.Readings.{shown_twice, shown_before, shown_after, shown_never}
 
 -- what `nth` gives outside a table
@@ -84,3 +87,17 @@ module _ (first : ℤ) (cs : List Change) (t : LawfulTable first cs) (r a : ℤ)
 
   pub around : (o : ℤ) (c : Change) → o ≡ offset_after first cs n → c ≡ nth cs n → n < length cs → Around (offset_by first cs) r o c
   around o c oe ce more = rw (oe, ce) (around_next more)
+
+-- ---- a clock that goes from one offset to another at a change, which truncation cites
+
+pub lawful_switching : (old : ℤ) (c : Change) → LawfulOffset old → LawfulOffset c.offset → (s : ℤ) → LawfulOffset (switching old c s)
+lawful_switching old c lo lc s = cond_both (lt_z s c.second) old c.offset LawfulOffset (λ _. lo) (λ _. lc)
+
+abbrev pub switched : (old : ℤ) (c : Change) (a : ℤ) → Window (switching old c) a
+switched old c a = record {
+  change = c.second;
+  old = old;
+  new = c.offset;
+  before = λ s from to h. let e : true ≡ lt_z s c.second = omega (arith, ints) in cond-true (lt_z s c.second) _ _ (sym e);
+  after = λ s from to h. let e : false ≡ lt_z s c.second = omega (arith, ints) in cond-false (lt_z s c.second) _ _ (sym e);
+}

@@ -1,12 +1,11 @@
 // From instants to moments and back, and moments cut to fixed lengths.
-ghost use Rattle.std.specs.Prelude.{◌≡◌, ◌*◌, pos, ◌+ℤ◌, ◌*ℤ◌, MatchResult, FitsSigned};
+ghost use Rattle.std.specs.Prelude.{◌≡◌, pos, ◌+ℤ◌, ◌*ℤ◌, MatchResult, FitsSigned};
 ghost use Rattle.std.specs.Int.{w64};
-ghost use Rattle.arith.specs.Clock.{LawfulOffset};
 ghost use Rattle.arith.specs.Greatest.{GreatestNotAfter, MultipleOf};
 ghost use Rattle.calendar.specs.Faults.{found};
 ghost use Rattle.calendar.specs.declared.fault.Cause.TheVariants.{TruncatedOutsideRange};
 ghost use Rattle.calendar.specs.declared.fault.Layer.TheVariants.{Truncation};
-ghost use Rattle.truncation.specs.Moments.{day_of, nanos_of, Near, OfRange, PartOfSecond, WholeSeconds};
+ghost use Rattle.truncation.specs.Moments.{day_of, nanos_of, PartOfSecond};
 
 use crate::moment::Moment;
 use calendar::{Cause, Fault, Layer};
@@ -36,10 +35,10 @@ impl Moment {
     pub(crate) fn instant(self) -> Result<i64, Fault>
         ensures { MatchResult result (λ t. t ≡ nanos_of self) (λ f. (FitsSigned w64 (nanos_of self) → ⊥) × (f ≡ found TruncatedOutsideRange Truncation)) }
     {
-        match i64::try_from(total(self.second, self.nanos)) {
-            Ok(instant) => Ok(instant),
-            Err(_) => Err(Fault::found(Cause::TruncatedOutsideRange, Layer::Truncation)),
-        }
+        i64::try_from(total(self.second, self.nanos)).map_err(|_| Fault::found(
+            Cause::TruncatedOutsideRange,
+            Layer::Truncation,
+        ))
     }
 
     // Cut to whole parts of a second, each of so many nanoseconds.
@@ -50,28 +49,6 @@ impl Moment {
         Moment {
             second: self.second,
             nanos: self.nanos - self.nanos % length,
-        }
-    }
-
-    // Cut to whole lengths of so many seconds.
-    pub(crate) fn cut_seconds(self, length: u32) -> Moment
-        requires { WholeSeconds length × Near self.second }
-        ensures { GreatestNotAfter (MultipleOf (1000000000 * length)) (nanos_of self) (nanos_of result) }
-    {
-        Moment {
-            second: self.second - self.second.rem_euclid(length as i64),
-            nanos: 0,
-        }
-    }
-
-    // What a clock shows at a moment, by its offset there.
-    pub(crate) fn ahead(self, offset: i64) -> Moment
-        requires { OfRange self.second × LawfulOffset offset }
-        ensures { (result.second ≡ self.second +ℤ offset) × (result.nanos ≡ self.nanos) }
-    {
-        Moment {
-            second: self.second + offset,
-            nanos: self.nanos,
         }
     }
 

@@ -26,24 +26,13 @@ in_64 o l = to_z-of_z w64 o (omega (arith, ints))
 of_reading : (g : Granularity) (s o b : ℤ) (n : ℕ) (m : Moment) → LawfulOffset o → (m.second ≡ s +ℤ to_z w64 (of_z w64 o)) × (m.nanos ≡ n) → GreatestNotAfter (Boundary g) (nanos_of m) b → GreatestNotAfter (Boundary g) (pos 1_000_000_000 *ℤ (s +ℤ o) +ℤ pos n) b
 of_reading g s o b n m l (e, f) h = subst (λ z. GreatestNotAfter (Boundary g) z b) (ap (λ z. pos 1_000_000_000 *ℤ z +ℤ pos m.nanos) (e ∙ ap (λ z. s +ℤ z) (in_64 o l)) ∙ ap (λ k. pos 1_000_000_000 *ℤ (s +ℤ o) +ℤ pos k) f) h
 
-pub ahead-requires : goal.ahead-requires
-ahead-requires g c =
-    let h = here_is _ (g.Z.Zone.laws c.args.zone.now) _ _ c.requires c.in_ok-here.ensures in
-    (c.requires, rw (in_64 c.in_ok-here.here h.1) h.1)
-
-pub date_trunc_coarse-requires : goal.date_trunc_coarse-requires
-date_trunc_coarse-requires g c =
-    let h = here_is _ (g.Z.Zone.laws c.args.zone.now) _ _ c.requires c.in_ok-here.ensures in
-    let e = c.ahead.ensures.0 ∙ ap (λ z. c.args.at.second +ℤ z) (in_64 c.in_ok-here.here h.1) in
-    rw e (reading_near c.args.at.second c.in_ok-here.here c.requires h.1)
-
 pub returns-in_err-place : goal.returns-in_err-place
 returns-in_err-place g c =
     let h = here_is _ (g.Z.Zone.laws c.args.zone.now) _ _ c.requires c.in_ok-here.ensures in
     let at = c.args.at in
     let found = c.in_ok-found.found in
     let near = reading_near at.second c.in_ok-here.here c.requires h.1 in
-    let b = of_reading c.args.granularity at.second c.in_ok-here.here (nanos_of found) at.nanos c.ahead.result h.1 c.ahead.ensures c.in_ok-found.ensures in
+    let b = of_reading c.args.granularity at.second c.in_ok-here.here (nanos_of found) at.nanos c.of.result.at h.1 c.of.ensures c.in_ok-found.ensures in
     let reach = in_reach c.args.granularity _ found.second _ found.nanos near at.below found.below b in
     let f : SFits w64 found.second = search rules in
     absurd (c.in_err-place.ensures.0 (rw (to_z-of_z w64 found.second f) reach))
@@ -60,7 +49,7 @@ returns g c =
     let h = here_is _ law _ _ c.requires c.in_ok-here.ensures in
     let at = c.args.at in
     let found = c.in_ok-found.found in
-    let b = of_reading c.args.granularity at.second c.in_ok-here.here (nanos_of found) at.nanos c.ahead.result h.1 c.ahead.ensures c.in_ok-found.ensures in
+    let b = of_reading c.args.granularity at.second c.in_ok-here.here (nanos_of found) at.nanos c.of.result.at h.1 c.of.ensures c.in_ok-found.ensures in
     let f : SFits w64 found.second = search rules in
     let q = to_z-of_z w64 found.second f in
     let place = rw q at c.in_ok-place.ensures.1 in

@@ -35,6 +35,6 @@ returns g c =
     let f : SFits w64 c.in_ok-start.start = search rules in
     let s = to_z-of_z w64 c.in_ok-start.start f in
     let a = nanos_of c.in_ok-date_trunc_coarse_with_tz.field-0 in
-    let r : to_z w64 (of_z w64 c.in_unit.result) ≡ int_div_euclid a (scale_of u) = to_z-of_z w64 c.in_unit.result (record { sfits = c.in_unit.type_inv }) ∙ c.in_unit.ensures ∙ ap (λ z. int_div_euclid z (scale_of u)) (s ∙ c.in_ok-start.ensures) in
+    let r : to_z w64 (of_z w64 c.whole.result) ≡ int_div_euclid a (scale_of u) = to_z-of_z w64 c.whole.result (record { sfits = c.whole.type_inv }) ∙ c.whole.ensures ∙ ap (λ z. int_div_euclid z (scale_of u)) (s ∙ c.in_ok-start.ensures) in
     let h = cut g (at-returns g c).In_ok-date_trunc_coarse_with_tz in
     on_ok o u c.args.granularity c.args.instant a h.0 _ (h.1 u c.requires) (subst Fits c.in_ok-start.ensures f) r

@@ -2,7 +2,7 @@
 use Rattle.std.proofs.Common.{◌≡◌, ◌<◌, pos, nat_abs, refl, ◌∙◌, arith, w64, to_z, of_z}
 use Rattle.std.proofs.lemmas.Int.{ints, to_z-of_z}
 use Rattle.truncation.proofs.TowardZero.{toward_zero, between, less_fits}
-use Rattle.truncation.proofs.time.less_remainder.Goals as goal
+use Rattle.truncation.proofs.time_type.less_remainder.Goals as goal
 
 pub returns : goal.returns
 returns c =

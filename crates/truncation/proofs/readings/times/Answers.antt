@@ -1,7 +1,7 @@
 -- Each reading is the value less its remainder.
 use Rattle.std.proofs.Common.{refl, lit<}
 use Rattle.truncation.proofs.TowardZero.{toward_zero}
-use Rattle.truncation.proofs.time.readings.Goals as goal
+use Rattle.truncation.proofs.readings.times.Goals as goal
 
 pub returns : goal.returns
 returns c = record {

@@ -1,3 +1,2 @@
 mod Filed
-mod Numbers
 mod Spelt

@@ -1,5 +1,6 @@
 -- What becomes of a line, and what filing it changes.
-use Rattle.std.specs.Prelude.{◌≡◌, ℕ, ◌+◌, ◌-◌, ◌^◌, ◌<◌, ◌≤◌, min, true, false, ◌⊎◌, List, length, take, drop, Some, None, Ok, Err, IsUtf8, Option, slice_index}
+use Rattle.std.specs.Prelude.{◌≡◌, ℕ, ◌+◌, ◌-◌, ◌^◌, ◌<◌, ◌≤◌, min, true, false, ◌⊎◌, List, length, ℤ, take, drop, Some, None, Ok, Err, IsUtf8, Option, slice_index}
+use Rattle.std.specs.BTreeMap.{BTreeMap, IsUnchanged}
 use Rattle.std.specs.Borrow.{Bor}
 use Rattle.std.specs.Char.{is_ascii_whitespace}
 use Rattle.truncation.specs.Truncations.{Truncated}
@@ -7,18 +8,16 @@ use Rattle.truncation.specs.declared.granularity.Granularity.{Granularity}
 use Rattle.truncation.specs.declared.unit.TimeUnit.{TimeUnit}
 use Rattle.vaultlog.specs.Filing.{OneMore}
 use Rattle.vaultlog.specs.Rows.{ReadAs}
-use Rattle.vaultlog.specs.declared.bucket.Bucket.{Bucket}
 use Rattle.vaultlog.specs.declared.log.Outcome.{Outcome}
 use Rattle.vaultlog.specs.declared.log.Outcome.TheVariants.{Filed, Empty, Refused, NotRead}
 use Rattle.vaultlog.specs.declared.log.Totals.{Totals}
 use Rattle.vaultlog.specs.declared.row.NotRead.TheVariants.{NoText}
-use Rattle.vaultlog.specs.declared.row.Row.TheVariants.{Value, Empty as Nothing}
 
 -- a value is filed under its bucket's start, or refused; an empty row, and a line that is no row, are neither
 abbrev pub Becomes : TimeUnit → Granularity → List ℕ → Outcome → Type 0
-Becomes u g bs (Filed v s) = ReadAs u bs (Ok (Value v)) × Truncated u g v (Ok s)
-Becomes u g bs Empty = ReadAs u bs (Ok Nothing)
-Becomes u g bs (Refused v f) = ReadAs u bs (Ok (Value v)) × Truncated u g v (Err f)
+Becomes u g bs (Filed v s) = ReadAs u bs (Ok (Some v)) × Truncated u g v (Ok s)
+Becomes u g bs Empty = ReadAs u bs (Ok None)
+Becomes u g bs (Refused v f) = ReadAs u bs (Ok (Some v)) × Truncated u g v (Err f)
 Becomes u g bs (NotRead e) = ReadAs u bs (Err e)
 
 -- a row is its line without the white space around it
@@ -40,11 +39,11 @@ Entered u g row (Some text) o = (text.now ≡ row) × Becomes u g row o
 Entered u g row None o = (IsUtf8 row → ⊥) × (o ≡ NotRead NoText)
 
 -- the buckets before and after: only a value that is filed changes them
-abbrev pub FiledAs : Outcome → List Bucket → List Bucket → Type 0
-FiledAs (Filed v s) bs cs = OneMore bs s cs
-FiledAs Empty bs cs = cs ≡ bs
-FiledAs (Refused v f) bs cs = cs ≡ bs
-FiledAs (NotRead e) bs cs = cs ≡ bs
+abbrev pub FiledAs : Outcome → BTreeMap ℤ ℕ → BTreeMap ℤ ℕ → Type 0
+FiledAs (Filed v s) old new = OneMore old s new
+FiledAs Empty old new = IsUnchanged old new
+FiledAs (Refused v f) old new = IsUnchanged old new
+FiledAs (NotRead e) old new = IsUnchanged old new
 
 -- one more, as far as 64 bits go
 abbrev pub one_up : ℕ → ℕ

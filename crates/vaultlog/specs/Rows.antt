@@ -1,5 +1,5 @@
 -- What a row of the log says: a number in the unit, an instant, or nothing.
-use Rattle.std.specs.Prelude.{◌≡◌, ℕ, ◌⊎◌, List, ℤ, Ok, Err, codes, Result, FitsSigned}
+use Rattle.std.specs.Prelude.{◌≡◌, ℕ, ◌⊎◌, List, ℤ, Some, None, Ok, Err, codes, Option, Result, FitsSigned}
 use Rattle.std.specs.Int.{w64}
 use Rattle.std.specs.Str.Parse.{IsNumeral, without_leading_sign, signed_digits_value}
 use Rattle.calendar.specs.DateTimes.{instant_of}
@@ -11,8 +11,6 @@ use Rattle.vaultlog.specs.Spelling.{Spelled}
 use Rattle.vaultlog.specs.declared.instant.Parts.{Parts}
 use Rattle.vaultlog.specs.declared.row.NotRead.{NotRead}
 use Rattle.vaultlog.specs.declared.row.NotRead.TheVariants.{NoRow, NumberTooBig}
-use Rattle.vaultlog.specs.declared.row.Row.{Row}
-use Rattle.vaultlog.specs.declared.row.Row.TheVariants.{Value, Empty}
 
 -- digits, after a sign or none
 abbrev pub IsNumber : List ℕ → Type 0
@@ -46,7 +44,7 @@ pub record Unfit (u : TimeUnit) (bs : List ℕ) (e : NotRead) : Type 0 where
 abbrev pub NoInstant : TimeUnit → List ℕ → NotRead → Type 0
 NoInstant u bs e = (((p : Parts) → Spelled bs p → ⊥) × (e ≡ NoRow)) ⊎ (NoneSuch bs e ⊎ Unfit u bs e)
 
-abbrev pub ReadAs : TimeUnit → List ℕ → Result Row NotRead → Type 0
-ReadAs u bs (Ok Empty) = bs ≡ codes "-"
-ReadAs u bs (Ok (Value v)) = (IsNumber bs × (v ≡ number_of bs)) ⊎ AtInstant u bs v
+abbrev pub ReadAs : TimeUnit → List ℕ → Result (Option ℤ) NotRead → Type 0
+ReadAs u bs (Ok None) = bs ≡ codes "-"
+ReadAs u bs (Ok (Some v)) = (IsNumber bs × (v ≡ number_of bs)) ⊎ AtInstant u bs v
 ReadAs u bs (Err e) = ((IsNumber bs × (FitsSigned w64 (number_of bs) → ⊥)) × (e ≡ NumberTooBig)) ⊎ ((IsNumber bs → ⊥) × NoInstant u bs e)

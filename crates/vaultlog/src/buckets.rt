@@ -1,16 +1,17 @@
-// The buckets that rows are filed under, in ascending order of their starts.
-ghost use Rattle.std.specs.Prelude.{◌≡◌, ◌<◌, [], length, MatchResult};
-ghost use Rattle.vaultlog.specs.Filing.{Ascending, Missing, OneMore, start_at};
+// The rows that are filed under each start, in ascending order of the starts.
+ghost use Rattle.std.specs.Prelude.{◌≡◌, MatchResult};
+ghost use Rattle.std.specs.BTreeMap.{IsEmpty, IsUnchanged};
+ghost use Rattle.vaultlog.specs.Filing.{Ascending, OneMore};
 
-use crate::bucket::Bucket;
 use std::alloc::{AllocFailed, Global};
+use std::collections::BTreeMap;
+use std::collections::btree_map::Iter;
 use std::error::Error;
 use std::fmt;
 
 #[derive(Drop)]
 pub(crate) struct Buckets {
-    list: Vec<Bucket>,
-    ghost ascending: { Ascending list.items },
+    counts: BTreeMap<i64, u64>,
 }
 
 // Why a row could not be filed.
@@ -37,50 +38,29 @@ impl fmt::Display for Unfiled {
 
 impl Error for Unfiled {}
 
-// The bucket of a start: its index, or else the index at which it belongs.
-fn find(list: &[Bucket], start: i64) -> Result<usize, usize>
-    ensures { MatchResult result (λ i. (i < length list.now) × (start_at list.now i ≡ start)) (λ i. Missing list.now start i) }
-{
-    for (i, bucket) in list.iter().enumerate() {
-        if bucket.start == start {
-            return Ok(i);
-        }
-        if bucket.start > start {
-            return Err(i);
-        }
-    }
-    Err(list.len())
-}
-
 impl Buckets {
     pub(crate) fn new(heap: Global) -> Buckets
-        ensures { result.list.items ≡ [] }
+        ensures { IsEmpty result.counts }
     {
         Buckets {
-            list: Vec::new(heap),
+            counts: BTreeMap::new(heap),
         }
     }
 
-    pub(crate) fn list(&self) -> &[Bucket]
-        ensures value { result.now ≡ self.now.list.items }
-        ensures ascending { Ascending result.now }
+    // Each start with its count.
+    pub(crate) fn iter(&self) -> Iter<'_, i64, u64>
+        ensures value { result ≡ self.now.counts.entries }
+        ensures ascending { Ascending result }
     {
-        self.list.as_slice()
+        self.counts.iter()
     }
 
     // One row more in the bucket of this start.
     pub(crate) fn file(&mut self, start: i64) -> Result<(), Unfiled>
-        ensures { MatchResult result (λ _. OneMore self.old.list.items start self.new.list.items) (λ _. self.new.list.items ≡ self.old.list.items) }
+        ensures { MatchResult result (λ _. OneMore self.old.counts start self.new.counts) (λ _. IsUnchanged self.old.counts self.new.counts) }
     {
-        match find(self.list.as_slice(), start) {
-            Ok(i) => {
-                let Some(count) = self.list[i].count.checked_add(1) else {
-                    return Err(Unfiled::CountTooBig);
-                };
-                self.list[i].count = count;
-            }
-            Err(i) => self.list.insert(i, Bucket { start, count: 1 })?,
-        }
+        let count = self.counts.entry(start)?.or_insert(0);
+        *count = count.checked_add(1).ok_or(Unfiled::CountTooBig)?;
         Ok(())
     }
 }

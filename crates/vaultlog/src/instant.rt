@@ -1,12 +1,13 @@
 // Instants of UTC as ISO 8601 writes them: 2024-02-29, 2024-02-29T12:34Z, 2024-02-29T12:34:56Z and 2024-02-29T12:34:56.789Z.
-ghost use Rattle.std.specs.Prelude.{◌≡◌, ℕ, ◌-◌, ◌<◌, length, MatchOption, slice_index_or};
+ghost use Rattle.std.specs.Prelude.{◌≡◌, ℕ, ◌-◌, ◌≤◌, length, MatchOption};
+ghost use Rattle.std.specs.List.{AllByRecursion};
 ghost use Rattle.std.specs.Result as Results;
 ghost use Rattle.calendar.specs.DateTimes.{instant_of};
 ghost use Rattle.truncation.specs.Units.{nanos};
 ghost use Rattle.vaultlog.specs.Instants.{IsTime, since_midnight, Holds, NoDateTime, NotInUnit};
-ghost use Rattle.vaultlog.specs.Digits.{IsDigit};
+ghost use Rattle.vaultlog.specs.Digits.{IsDigit, first_of};
 ghost use Rattle.vaultlog.specs.Rows.{AtInstant, NoInstant};
-ghost use Rattle.vaultlog.specs.Spelling.{Two, Four, Fraction, Seconds, Clock, AfterDate, Spelled};
+ghost use Rattle.vaultlog.specs.Spelling.{Fraction, Seconds, Clock, AfterDate, Spelled};
 
 use crate::row::NotRead;
 use calendar::{Date, DateTime};
@@ -39,37 +40,19 @@ const MIDNIGHT: TimeParts = TimeParts {
 fn digit(byte: u8) -> Option<u32>
     ensures { MatchOption result (IsDigit byte → ⊥) (λ n. IsDigit byte × (n ≡ byte - 48)) }
 {
-    match byte {
-        b'0'..=b'9' => Some((byte - b'0') as u32),
-        _ => None,
+    char::from(byte).to_digit(10)
+}
+
+// The number that up to nine digits write.
+fn number(digits: &[u8]) -> Option<u32>
+    requires { length digits.now ≤ 9 }
+    ensures { MatchOption result (AllByRecursion IsDigit digits.now → ⊥) (λ n. AllByRecursion IsDigit digits.now × (n ≡ first_of digits.now (length digits.now))) }
+{
+    let mut number = 0;
+    for byte in digits {
+        number = number * 10 + digit(*byte)?;
     }
-}
-
-fn two_digits(a: u8, b: u8) -> Option<u32>
-    ensures { MatchOption result (IsDigit a × IsDigit b → ⊥) (λ n. Two a b n) }
-{
-    let tens = digit(a)?;
-    let ones = digit(b)?;
-    Some(tens * 10 + ones)
-}
-
-fn four_digits(a: u8, b: u8, c: u8, d: u8) -> Option<u32>
-    ensures { MatchOption result (IsDigit a × IsDigit b × IsDigit c × IsDigit d → ⊥) (λ n. Four a b c d n) }
-{
-    let hundreds = two_digits(a, b)?;
-    let ones = two_digits(c, d)?;
-    Some(hundreds * 100 + ones)
-}
-
-// The digit at a place, or 0 past the end.
-fn digit_at(digits: &[u8], i: usize) -> Option<u32>
-    ensures { MatchOption result ((i < length digits.now) × (IsDigit (slice_index_or digits.now i 48) → ⊥)) (λ n. IsDigit (slice_index_or digits.now i 48) × (n ≡ slice_index_or digits.now i 48 - 48)) }
-{
-    if i < digits.len() {
-        digit(digits[i])
-    } else {
-        Some(0)
-    }
+    Some(number)
 }
 
 // The nanoseconds of one to nine digits after the point.
@@ -79,11 +62,7 @@ fn read_fraction(digits: &[u8]) -> Option<u32>
     if digits.is_empty() || digits.len() > 9 {
         return None;
     }
-    let mut nanos: u32 = 0;
-    for i in 0..9 {
-        nanos = nanos * 10 + digit_at(digits, i)?;
-    }
-    Some(nanos)
+    Some(number(digits)? * 10u32.pow(9 - digits.len() as u32))
 }
 
 // The seconds of a time of day and their fraction, or nothing where the minutes end it.
@@ -92,9 +71,9 @@ fn read_seconds(text: &[u8]) -> Option<(u32, u32)>
 {
     match text {
         [] => Some((0, 0)),
-        [b':', a, b] => Some((two_digits(*a, *b)?, 0)),
+        [b':', a, b] => Some((number(&[*a, *b])?, 0)),
         [b':', a, b, b'.', fraction @ ..] => {
-            Some((two_digits(*a, *b)?, read_fraction(fraction)?))
+            Some((number(&[*a, *b])?, read_fraction(fraction)?))
         }
         _ => None,
     }
@@ -106,8 +85,8 @@ fn read_time(text: &[u8]) -> Option<TimeParts>
 {
     match text {
         [a, b, b':', c, d, rest @ ..] => {
-            let hour = two_digits(*a, *b)?;
-            let minute = two_digits(*c, *d)?;
+            let hour = number(&[*a, *b])?;
+            let minute = number(&[*c, *d])?;
             let (second, nanos) = read_seconds(rest)?;
             Some(TimeParts {
                 hour,
@@ -126,10 +105,7 @@ fn read_after_date(text: &[u8]) -> Option<TimeParts>
 {
     match text {
         [] => Some(MIDNIGHT),
-        [b'T', rest @ ..] => match rest.split_last()? {
-            (b'Z', time) => read_time(time),
-            _ => None,
-        },
+        [b'T', time @ .., b'Z'] => read_time(time),
         _ => None,
     }
 }
@@ -139,9 +115,9 @@ fn read_parts(text: &[u8]) -> Option<Parts>
 {
     match text {
         [a, b, c, d, b'-', m, n, b'-', x, y, rest @ ..] => {
-            let year = four_digits(*a, *b, *c, *d)? as i32;
-            let month = two_digits(*m, *n)?;
-            let day = two_digits(*x, *y)?;
+            let year = number(&[*a, *b, *c, *d])? as i32;
+            let month = number(&[*m, *n])?;
+            let day = number(&[*x, *y])?;
             let time = read_after_date(rest)?;
             Some(Parts {
                 year,
@@ -169,14 +145,9 @@ fn time_of_day(time: TimeParts) -> Option<u64>
 fn date_time(parts: Parts) -> Result<DateTime, NotRead>
     ensures { Results.MatchResult result (λ t. Holds parts t) (λ e. NoDateTime parts e) }
 {
-    let date = match Date::new(parts.year, parts.month, parts.day) {
-        Ok(date) => date,
-        Err(fault) => return Err(NotRead::NoSuchDate(fault)),
-    };
-    match time_of_day(parts.time) {
-        Some(nanos) => Ok(DateTime { date, nanos }),
-        None => Err(NotRead::NoSuchTime),
-    }
+    let date = Date::new(parts.year, parts.month, parts.day).map_err(NotRead::NoSuchDate)?;
+    let nanos = time_of_day(parts.time).ok_or(NotRead::NoSuchTime)?;
+    Ok(DateTime { date, nanos })
 }
 
 // The date-time as a whole number of units.
@@ -188,19 +159,13 @@ fn in_unit(at: DateTime, unit: TimeUnit) -> Result<i64, NotRead>
     if instant.rem_euclid(scale) != 0 {
         return Err(NotRead::FinerThanUnit);
     }
-    match i64::try_from(instant.div_euclid(scale)) {
-        Ok(value) => Ok(value),
-        Err(_) => Err(NotRead::OutsideUnit),
-    }
+    i64::try_from(instant.div_euclid(scale)).map_err(|_| NotRead::OutsideUnit)
 }
 
 // The instant that a text writes, as a whole number of units.
 pub(crate) fn read_instant(unit: TimeUnit, text: &[u8]) -> Result<i64, NotRead>
     ensures { Results.MatchResult result (λ v. AtInstant unit text.now v) (λ e. NoInstant unit text.now e) }
 {
-    let Some(parts) = read_parts(text) else {
-        return Err(NotRead::NoRow);
-    };
-    let at = date_time(parts)?;
-    in_unit(at, unit)
+    let parts = read_parts(text).ok_or(NotRead::NoRow)?;
+    in_unit(date_time(parts)?, unit)
 }

@@ -1,10 +1,11 @@
 // A log read line by line: what became of each line, and what is filed so far.
 ghost use Rattle.std.specs.Prelude.{◌≡◌, ℕ, List, MatchOption, MatchResult};
+ghost use Rattle.std.specs.BTreeMap.{IsUnchanged};
 ghost use Rattle.vaultlog.specs.Outcomes.{Becomes, Entered, FiledAs, Skipped, Trimmed, counted};
 
 use crate::buckets::{Buckets, Unfiled};
 use crate::options::Options;
-use crate::row::{NotRead, Row, is_skipped, read_row};
+use crate::row::{NotRead, is_skipped, read_row};
 use calendar::Fault;
 use std::alloc::Global;
 use std::str::from_utf8;
@@ -27,7 +28,7 @@ pub(crate) struct Entry<'a> {
 }
 
 // How many lines became what.
-#[derive(Clone, Copy)]
+#[derive(Clone, Copy, Default)]
 pub(crate) struct Totals {
     pub filed: u64,
     pub empty: u64,
@@ -40,13 +41,13 @@ fn outcome_of(options: Options, text: &str) -> Outcome
     ensures { Becomes options.unit options.granularity text.now result }
 {
     match read_row(options.unit, text) {
-        Ok(Row::Value(value)) => {
+        Ok(Some(value)) => {
             match general_date_trunc(options.unit, options.granularity, value) {
                 Ok(start) => Outcome::Filed { value, start },
                 Err(fault) => Outcome::Refused { value, fault },
             }
         }
-        Ok(Row::Empty) => Outcome::Empty,
+        Ok(None) => Outcome::Empty,
         Err(why) => Outcome::NotRead(why),
     }
 }
@@ -59,28 +60,15 @@ pub(crate) fn entry_of(options: Options, line: &[u8]) -> Option<Entry<'_>>
     if is_skipped(row) {
         return None;
     }
-    match from_utf8(row) {
-        Ok(text) => Some(Entry {
-            text: Some(text),
-            outcome: outcome_of(options, text),
-        }),
-        Err(_) => Some(Entry {
-            text: None,
-            outcome: Outcome::NotRead(NotRead::NoText),
-        }),
-    }
+    let text = from_utf8(row).ok();
+    let outcome = match text {
+        Some(text) => outcome_of(options, text),
+        None => Outcome::NotRead(NotRead::NoText),
+    };
+    Some(Entry { text, outcome })
 }
 
 impl Totals {
-    pub(crate) fn none() -> Totals {
-        Totals {
-            filed: 0,
-            empty: 0,
-            refused: 0,
-            not_read: 0,
-        }
-    }
-
     // One line more.
     fn count(&mut self, outcome: Outcome)
         ensures { self.new ≡ counted outcome self.old }
@@ -105,13 +93,13 @@ impl Log {
     pub(crate) fn new(heap: Global) -> Log {
         Log {
             buckets: Buckets::new(heap),
-            totals: Totals::none(),
+            totals: Totals::default(),
         }
     }
 
     // Files what became of a line.
     pub(crate) fn file(&mut self, outcome: Outcome) -> Result<(), Unfiled>
-        ensures buckets { MatchResult result (λ _. FiledAs outcome self.old.buckets.list.items self.new.buckets.list.items) (λ _. self.new.buckets.list.items ≡ self.old.buckets.list.items) }
+        ensures buckets { MatchResult result (λ _. FiledAs outcome self.old.buckets.counts self.new.buckets.counts) (λ _. IsUnchanged self.old.buckets.counts self.new.buckets.counts) }
         ensures totals { MatchResult result (λ _. self.new.totals ≡ counted outcome self.old.totals) (λ _. self.new.totals ≡ self.old.totals) }
     {
         if let Outcome::Filed { start, .. } = outcome {

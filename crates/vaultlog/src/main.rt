@@ -1,7 +1,6 @@
 // Files a log of lock events under calendar time buckets, and prints what was filed.
 #![tactic(auto)]
 
-mod bucket;
 mod buckets;
 mod instant;
 mod log;
@@ -11,11 +10,11 @@ mod row;
 mod shown;
 #[cfg(test)]
 mod tests;
-mod texts;
 
 use log::{Log, entry_of};
 use options::{Command, Options, USAGE, read_command};
 use report::{BucketHeading, BucketLine, EntryLine, Heading, TotalsLine};
+use shown::Timestamp;
 use std::io::{BufRead, BufReader};
 use std::process::ExitCode;
 use std::{env, io};
@@ -43,11 +42,9 @@ fn file_log(rt: &HostRuntime, options: Options) -> anyhow::Result<Log> {
 fn print_buckets(rt: &HostRuntime, options: Options, log: &Log) -> io::Result<()> {
     let unit = options.unit;
     rt.println(BucketHeading(unit))?;
-    for bucket in log.buckets.list() {
-        rt.println(BucketLine {
-            unit,
-            bucket: *bucket,
-        })?;
+    for (&value, &count) in log.buckets.iter() {
+        let start = Timestamp { unit, value };
+        rt.println(BucketLine { start, count })?;
     }
     rt.println(TotalsLine(log.totals))
 }
@@ -60,8 +57,7 @@ fn run(rt: &HostRuntime, options: Options) -> anyhow::Result<()> {
 }
 
 fn arguments(rt: &HostRuntime) -> anyhow::Result<Vec<String>> {
-    let words: Vec<String> = env::args(rt)?.skip(1).collect(rt.alloc())?;
-    Ok(words)
+    Ok(env::args(rt)?.skip(1).collect(rt.alloc())?)
 }
 
 fn main(rt: HostRuntime) -> anyhow::Result<ExitCode> {

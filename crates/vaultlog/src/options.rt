@@ -3,7 +3,6 @@ ghost use Rattle.std.specs.Prelude.{◌≡◌, MatchResult, ◌≢◌};
 ghost use Rattle.truncation.specs.Names.{folded, name_of};
 ghost use Rattle.vaultlog.specs.Arguments.{symbol_of};
 
-use crate::shown::ShownFault;
 use calendar::Fault;
 use std::fmt;
 use truncation::{Granularity, TimeUnit};
@@ -53,7 +52,6 @@ impl<'a> fmt::Display for BadArgument<'a> {
             BadArgument::NoValue(option) => write!(f, "{option} wants a value"),
             BadArgument::UnknownUnit(word) => write!(f, "unknown unit: {word:?}"),
             BadArgument::UnknownGranularity(name, fault) => {
-                let fault = ShownFault(*fault);
                 write!(f, "refused: {fault}: {name:?}")
             }
             BadArgument::NoGranularity => f.write_str("--granularity is missing"),
@@ -71,6 +69,7 @@ impl<'a> BadArgument<'a> {
     }
 }
 
+// A unit by its symbol; no FromStr, since the type is another crate's.
 fn unit_of(word: &str) -> Result<TimeUnit, BadArgument<'_>>
     ensures { MatchResult result (λ u. word.now ≡ symbol_of u) (λ _. (u : TimeUnit) → word.now ≢ symbol_of u) }
 {
@@ -86,93 +85,36 @@ fn unit_of(word: &str) -> Result<TimeUnit, BadArgument<'_>>
 fn granularity_of(name: &str) -> Result<Granularity, BadArgument<'_>>
     ensures { MatchResult result (λ g. folded name.now ≡ name_of g) (λ _. (g : Granularity) → folded name.now ≢ name_of g) }
 {
-    match Granularity::try_from(name.as_bytes()) {
-        Ok(granularity) => Ok(granularity),
-        Err(fault) => Err(BadArgument::UnknownGranularity(name, fault)),
-    }
+    Granularity::try_from(name.as_bytes()).map_err(|fault| BadArgument::UnknownGranularity(
+        name, fault,
+    ))
 }
 
-// An option that takes a value.
-#[derive(Clone, Copy)]
-enum Key {
-    Granularity,
-    Unit,
-}
-
-fn key_of(word: &str) -> Result<Key, BadArgument<'_>> {
+// The value of an option: the word after it, unless that begins as an option does.
+fn value_of<'a>(option: &'a str, word: Option<&'a str>) -> Result<&'a str, BadArgument<'a>> {
     match word {
-        "--granularity" => Ok(Key::Granularity),
-        "--unit" => Ok(Key::Unit),
-        _ => Err(BadArgument::UnknownOption(word)),
-    }
-}
-
-fn no_value(key: Key) -> BadArgument<'static> {
-    match key {
-        Key::Granularity => BadArgument::NoValue("--granularity"),
-        Key::Unit => BadArgument::NoValue("--unit"),
-    }
-}
-
-// What the arguments so far say, and the option whose value comes next.
-#[derive(Clone, Copy)]
-struct Draft {
-    granularity: Option<Granularity>,
-    unit: TimeUnit,
-    open: Option<Key>,
-}
-
-impl Draft {
-    fn with_value(mut self, key: Key, word: &str) -> Result<Draft, BadArgument<'_>> {
-        match key {
-            Key::Granularity => self.granularity = Some(granularity_of(word)?),
-            Key::Unit => self.unit = unit_of(word)?,
-        }
-        self.open = None;
-        Ok(self)
-    }
-
-    fn with_word(mut self, word: &str) -> Result<Draft, BadArgument<'_>> {
-        match self.open {
-            None => {
-                self.open = Some(key_of(word)?);
-                Ok(self)
-            }
-            Some(key) => {
-                if word.starts_with("--") {
-                    return Err(no_value(key));
-                }
-                self.with_value(key, word)
-            }
-        }
-    }
-
-    fn options(self) -> Result<Options, BadArgument<'static>> {
-        if let Some(key) = self.open {
-            return Err(no_value(key));
-        }
-        match self.granularity {
-            Some(granularity) => Ok(Options {
-                granularity,
-                unit: self.unit,
-            }),
-            None => Err(BadArgument::NoGranularity),
-        }
+        Some(value) if !value.starts_with("--") => Ok(value),
+        _ => Err(BadArgument::NoValue(option)),
     }
 }
 
 // What a run is asked to do, by its arguments.
 pub(crate) fn read_command(words: &[String]) -> Result<Command, BadArgument<'_>> {
-    let mut draft = Draft {
-        granularity: None,
-        unit: TimeUnit::Second,
-        open: None,
-    };
-    for word in words {
-        if word.as_str() == "--help" {
-            return Ok(Command::Help);
+    let mut granularity = None;
+    let mut unit = TimeUnit::Second;
+    let mut words = words.iter().map(String::as_str);
+    while let Some(option) = words.next() {
+        match (option, words.next()) {
+            ("--help", _) | ("--granularity" | "--unit", Some("--help")) => {
+                return Ok(Command::Help);
+            }
+            ("--granularity", word) => {
+                granularity = Some(granularity_of(value_of(option, word)?)?);
+            }
+            ("--unit", word) => unit = unit_of(value_of(option, word)?)?,
+            _ => return Err(BadArgument::UnknownOption(option)),
         }
-        draft = draft.with_word(word.as_str())?;
     }
-    Ok(Command::File(draft.options()?))
+    let granularity = granularity.ok_or(BadArgument::NoGranularity)?;
+    Ok(Command::File(Options { granularity, unit }))
 }

@@ -1,10 +1,8 @@
 // The lines that a run prints.
-use crate::bucket::Bucket;
 use crate::log::{Entry, Outcome, Totals};
 use crate::options::Options;
 use crate::row::NotRead;
-use crate::shown::{ShownFault, instant_width, shown_instant};
-use crate::texts::unit_name;
+use crate::shown::{Timestamp, instant_width, unit_name};
 use std::fmt;
 use truncation::TimeUnit;
 
@@ -32,21 +30,6 @@ impl fmt::Display for Heading {
     }
 }
 
-fn write_value<W: fmt::Write>(
-    f: &mut fmt::Formatter<W>,
-    unit: TimeUnit,
-    value: i64,
-) -> fmt::Result {
-    write!(f, "  {value:>20}  ")?;
-    match shown_instant(unit, value) {
-        Some(instant) => write!(f, "{instant}"),
-        None => {
-            let width = instant_width(unit);
-            write!(f, "{:width$}", "")
-        }
-    }
-}
-
 fn write_not_read<W: fmt::Write>(
     f: &mut fmt::Formatter<W>,
     text: Option<&str>,
@@ -69,16 +52,16 @@ pub(crate) struct EntryLine<'a> {
 impl<'a> fmt::Display for EntryLine<'a> {
     fn fmt<W: fmt::Write>(&self, f: &mut fmt::Formatter<W>) -> fmt::Result {
         let number = self.number;
+        let unit = self.unit;
         write!(f, "{number:>5}")?;
         match self.entry.outcome {
             Outcome::Filed { value, start } => {
-                write_value(f, self.unit, value)?;
-                write_value(f, self.unit, start)
+                let start = Timestamp { unit, value: start };
+                write!(f, "  {}  {start}", Timestamp { unit, value })
             }
             Outcome::Empty => write!(f, "  {:>20}", "empty"),
             Outcome::Refused { value, fault } => {
-                write_value(f, self.unit, value)?;
-                write!(f, "  refused: {}", ShownFault(fault))
+                write!(f, "  {}  refused: {fault}", Timestamp { unit, value })
             }
             Outcome::NotRead(why) => write_not_read(f, self.entry.text, why),
         }
@@ -104,8 +87,8 @@ impl fmt::Display for BucketHeading {
 // A bucket, with a mark for each row.
 #[derive(Clone, Copy)]
 pub(crate) struct BucketLine {
-    pub unit: TimeUnit,
-    pub bucket: Bucket,
+    pub start: Timestamp,
+    pub count: u64,
 }
 
 fn write_marks<W: fmt::Write>(f: &mut fmt::Formatter<W>, count: u64) -> fmt::Result {
@@ -120,10 +103,10 @@ fn write_marks<W: fmt::Write>(f: &mut fmt::Formatter<W>, count: u64) -> fmt::Res
 
 impl fmt::Display for BucketLine {
     fn fmt<W: fmt::Write>(&self, f: &mut fmt::Formatter<W>) -> fmt::Result {
-        let start = self.bucket.start;
-        let count = self.bucket.count;
+        let start = self.start.value;
+        let count = self.count;
         write!(f, "{start:>20}  ")?;
-        if let Some(instant) = shown_instant(self.unit, start) {
+        if let Some(instant) = self.start.instant() {
             write!(f, "{instant}  {}", instant.weekday())?;
         }
         write!(f, "  {count:>5}  ")?;
@@ -137,10 +120,12 @@ pub(crate) struct TotalsLine(pub Totals);
 
 impl fmt::Display for TotalsLine {
     fn fmt<W: fmt::Write>(&self, f: &mut fmt::Formatter<W>) -> fmt::Result {
-        let filed = self.0.filed;
-        let empty = self.0.empty;
-        let refused = self.0.refused;
-        let not_read = self.0.not_read;
+        let Totals {
+            filed,
+            empty,
+            refused,
+            not_read,
+        } = self.0;
         writeln!(f)?;
         write!(
             f,

@@ -5,16 +5,9 @@ ghost use Rattle.vaultlog.specs.Outcomes.{Skipped};
 ghost use Rattle.vaultlog.specs.Rows.{IsNumber, ReadAs};
 
 use crate::instant::read_instant;
-use crate::shown::ShownFault;
 use calendar::Fault;
 use std::fmt;
 use truncation::TimeUnit;
-
-#[derive(Clone, Copy, PartialEq, Eq, Debug)]
-pub(crate) enum Row {
-    Value(i64),
-    Empty,
-}
 
 // Why a line is no row.
 #[derive(Clone, Copy, PartialEq, Eq, Debug)]
@@ -34,7 +27,7 @@ impl fmt::Display for NotRead {
             NotRead::NoText => f.write_str("the line is not UTF-8 text"),
             NotRead::NoRow => f.write_str("neither a number nor an instant"),
             NotRead::NumberTooBig => f.write_str("the number is beyond 64 bits"),
-            NotRead::NoSuchDate(fault) => write!(f, "no such date: {}", ShownFault(*fault)),
+            NotRead::NoSuchDate(fault) => write!(f, "no such date: {fault}"),
             NotRead::NoSuchTime => f.write_str("no such time of day"),
             NotRead::FinerThanUnit => f.write_str("the instant is no whole number of the unit"),
             NotRead::OutsideUnit => f.write_str("the unit cannot hold the instant in 64 bits"),
@@ -46,21 +39,13 @@ impl fmt::Display for NotRead {
 pub(crate) fn is_skipped(line: &[u8]) -> bool
     ensures { Decides result (Skipped line.now) }
 {
-    match line {
-        [] | [b'#', ..] => true,
-        _ => false,
-    }
+    matches!(line, [] | [b'#', ..])
 }
 
 fn all_digits(digits: &[u8]) -> bool
     ensures { Decides result (IsNumeral 10 digits.now) }
 {
-    for byte in digits {
-        if !byte.is_ascii_digit() {
-            return false;
-        }
-    }
-    !digits.is_empty()
+    !digits.is_empty() && digits.iter().all(u8::is_ascii_digit)
 }
 
 // Whether a text has the form of a number: digits, after a sign or none.
@@ -73,18 +58,17 @@ fn is_number(text: &[u8]) -> bool
     }
 }
 
-pub(crate) fn read_row(unit: TimeUnit, text: &str) -> Result<Row, NotRead>
+// The value of a row, or nothing for an empty row.
+pub(crate) fn read_row(unit: TimeUnit, text: &str) -> Result<Option<i64>, NotRead>
     ensures { ReadAs unit text.now result }
 {
     if text == "-" {
-        return Ok(Row::Empty);
+        return Ok(None);
     }
-    if is_number(text.as_bytes()) {
-        return match text.parse::<i64>() {
-            Ok(value) => Ok(Row::Value(value)),
-            Err(_) => Err(NotRead::NumberTooBig),
-        };
-    }
-    let value = read_instant(unit, text.as_bytes())?;
-    Ok(Row::Value(value))
+    let value = if is_number(text.as_bytes()) {
+        text.parse().map_err(|_| NotRead::NumberTooBig)?
+    } else {
+        read_instant(unit, text.as_bytes())?
+    };
+    Ok(Some(value))
 }

@@ -4,8 +4,7 @@ ghost use Rattle.calendar.specs.DateTimes.{instant_of};
 ghost use Rattle.truncation.specs.Truncations.{Fits};
 ghost use Rattle.truncation.specs.Units.{nanos};
 
-use crate::texts::{cause_text, layer_name, weekday_name};
-use calendar::{Date, DateTime, Fault};
+use calendar::{Date, DateTime, Weekday};
 use std::fmt;
 use truncation::TimeUnit;
 
@@ -16,18 +15,50 @@ pub(crate) struct ShownInstant {
     unit: TimeUnit,
 }
 
-// The instant of a value of the unit, where it scales to nanoseconds.
-pub(crate) fn shown_instant(unit: TimeUnit, value: i64) -> Option<ShownInstant>
-    ensures { MatchOption result (Fits (nanos unit value) → ⊥) (λ s. (s.unit ≡ unit) × (instant_of s.at ≡ nanos unit value)) }
-{
-    let nanos = value.checked_mul(unit.scale())?;
-    let at = DateTime::from_timestamp_nanos(nanos);
-    Some(ShownInstant { at, unit })
+// A value of a unit.
+#[derive(Clone, Copy)]
+pub(crate) struct Timestamp {
+    pub unit: TimeUnit,
+    pub value: i64,
+}
+
+impl Timestamp {
+    // Its instant, where it scales to nanoseconds.
+    pub(crate) fn instant(self) -> Option<ShownInstant>
+        ensures { MatchOption result (Fits (nanos self.unit self.value) → ⊥) (λ s. (s.unit ≡ self.unit) × (instant_of s.at ≡ nanos self.unit self.value)) }
+    {
+        let unit = self.unit;
+        let nanos = self.value.checked_mul(unit.scale())?;
+        let at = DateTime::from_timestamp_nanos(nanos);
+        Some(ShownInstant { at, unit })
+    }
+}
+
+// The columns of a value: its number, and its instant if it has one.
+impl fmt::Display for Timestamp {
+    fn fmt<W: fmt::Write>(&self, f: &mut fmt::Formatter<W>) -> fmt::Result {
+        let value = self.value;
+        let width = instant_width(self.unit);
+        write!(f, "{value:>20}  ")?;
+        match self.instant() {
+            Some(instant) => write!(f, "{instant}"),
+            None => write!(f, "{:width$}", ""),
+        }
+    }
 }
 
 impl ShownInstant {
-    pub(crate) fn weekday(self) -> &'static str {
-        weekday_name(self.at.date.weekday())
+    pub(crate) fn weekday(self) -> Weekday {
+        self.at.date.weekday()
+    }
+}
+
+pub(crate) fn unit_name(unit: TimeUnit) -> &'static str {
+    match unit {
+        TimeUnit::Second => "seconds",
+        TimeUnit::Millisecond => "milliseconds",
+        TimeUnit::Microsecond => "microseconds",
+        TimeUnit::Nanosecond => "nanoseconds",
     }
 }
 
@@ -75,18 +106,5 @@ impl fmt::Display for ShownInstant {
         write_time(f, self.at.nanos / 1_000_000_000)?;
         write_fraction(f, self.unit, self.at.nanos % 1_000_000_000)?;
         f.write_str("Z")
-    }
-}
-
-// A fault by its number, its layer and its cause.
-#[derive(Clone, Copy)]
-pub(crate) struct ShownFault(pub Fault);
-
-impl fmt::Display for ShownFault {
-    fn fmt<W: fmt::Write>(&self, f: &mut fmt::Formatter<W>) -> fmt::Result {
-        let number = self.0.cause.number();
-        let layer = layer_name(self.0.layer);
-        let cause = cause_text(self.0.cause);
-        write!(f, "{number} {layer}: {cause}")
     }
 }

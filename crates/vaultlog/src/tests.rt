@@ -2,9 +2,8 @@
 use crate::log::entry_of;
 use crate::options::{Command, Options, read_command};
 use crate::report::EntryLine;
-use crate::row::{NotRead, Row, read_row};
-use crate::shown::shown_instant;
-use crate::texts::unit_name;
+use crate::row::{NotRead, read_row};
+use crate::shown::{Timestamp, unit_name};
 use calendar::{Cause, Fault, Layer};
 use std::alloc::{AllocError, Global};
 use std::test::Fail;
@@ -63,15 +62,15 @@ fn reads_rows(rt: HostRuntime) {
     let last = "2262-04-11T23:47:16.854775807Z";
     let past = "2262-04-11T23:47:16.854775808Z";
     let cases = [
-        (S, "-", Ok(Row::Empty)),
-        (S, "-14182940", Ok(Row::Value(-14_182_940))),
-        (S, "9223372036854775807", Ok(Row::Value(i64::MAX))),
+        (S, "-", Ok(None)),
+        (S, "-14182940", Ok(Some(-14_182_940))),
+        (S, "9223372036854775807", Ok(Some(i64::MAX))),
         (S, "9223372036854775808", Err(NotRead::NumberTooBig)),
-        (S, "2024-02-29", Ok(Row::Value(1_709_164_800))),
-        (S, "1969-07-20T20:17:40Z", Ok(Row::Value(-14_182_940))),
-        (MS, half, Ok(Row::Value(951_804_000_500))),
+        (S, "2024-02-29", Ok(Some(1_709_164_800))),
+        (S, "1969-07-20T20:17:40Z", Ok(Some(-14_182_940))),
+        (MS, half, Ok(Some(951_804_000_500))),
         (S, half, Err(NotRead::FinerThanUnit)),
-        (NS, last, Ok(Row::Value(i64::MAX))),
+        (NS, last, Ok(Some(i64::MAX))),
         (NS, past, Err(NotRead::OutsideUnit)),
         (S, "2023-02-29", Err(no_date)),
         (S, "0000-01-01", Err(no_date)),
@@ -112,13 +111,17 @@ fn shows_instants(rt: HostRuntime) -> Result<(), Fail> {
         ),
     ];
     for (unit, value, want) in cases {
-        let Some(shown) = shown_instant(unit, value) else {
+        let Some(shown) = (Timestamp { unit, value }).instant() else {
             return Err(Fail::new("does not scale"));
         };
         let text = format!(in rt.alloc(); "{shown}")?;
         assert_eq!(rt; text.as_str(), want);
     }
-    assert!(rt; shown_instant(TimeUnit::Second, i64::MAX).is_none());
+    let last = Timestamp {
+        unit: TimeUnit::Second,
+        value: i64::MAX,
+    };
+    assert!(rt; last.instant().is_none());
     Ok(())
 }
 

@@ -1,22 +1,22 @@
-use Rattle.std.proofs.Common.{length, sym, ◌∙◌, inl, inr, arith}
-use Rattle.std.proofs.lemmas.Str.Parse.{digit_at}
-use Rattle.std.proofs.lemmas.Bool.{eqb-false, false≢true, ne_eqb, not_from_false, not-true}
-use Rattle.vaultlog.proofs.Numbers.{digits_from}
+use Rattle.std.proofs.Common.{ℕ, ◌<◌, List, [], ◌∷◌, sym, refl, ◌∙◌, arith, Decides, rules, tests}
+use Rattle.std.proofs.lemmas.Bool.Decides.{Decides-and, nat_tests}
+use Rattle.std.proofs.lemmas.Iterator.{YieldsList-from_slice}
+use Rattle.std.proofs.lemmas.Iterator.Search.{all_from_yields_List}
+use Rattle.std.specs.Char.{digit_value, is_ascii_digit}
+use Rattle.std.specs.List.{list_all}
+use Rattle.std.specs.Str.Parse.{AllDigits}
 use Rattle.vaultlog.proofs.row.all_digits.Goals as goal
 
-pub returns-then-not-is_ascii_digit : goal.returns-then-not-is_ascii_digit
-returns-then-not-is_ascii_digit c = (
-  (λ e. absurd (false≢true e)),
-  (λ n.
-      let d = digit_at c.args.digits.now c.loop-byte.byte-index n.1 c.loop-byte-test.true in
-      elim c.if-not-is_ascii_digit.ensures.cases [ inl h ↦ absurd (omega arith) | inr h ↦ absurd (omega arith) ]),
-)
+digit_decided : (b : ℕ) → Decides (is_ascii_digit b) (digit_value b < 10)
+digit_decided b = (λ e. grind (arith, nat_tests), λ h. grind (arith, nat_tests))
 
-pub returns : goal.returns
-returns c =
-    let r = c.is_empty.result in
-    let n = length c.args.digits.now in
-    let ds = digits_from c.args.digits.now (λ k l. c.loop-byte.invariant k (omega arith)) in (
-      (λ e. let some = eqb-false n 0 (sym c.is_empty.ensures ∙ not-true r e) in (omega arith, ds)),
-      (λ s. not_from_false r (c.is_empty.ensures ∙ ne_eqb n 0 (λ z. omega arith))),
-    )
+digits_decided : (ds : List ℕ) → Decides (list_all is_ascii_digit ds) (AllDigits 10 ds)
+digits_decided [] = (λ e. tt, λ h. refl)
+digits_decided (b ∷ bs) = Decides-and (is_ascii_digit b) (list_all is_ascii_digit bs) (digit_decided b) (digits_decided bs)
+
+pub returns-then-not-is_empty : goal.returns-then-not-is_empty
+returns-then-not-is_empty c =
+    let ds = c.args.digits.now in
+    let e = all_from_yields_List is_ascii_digit _ _ c.all.result c.all.ensures.ran (YieldsList-from_slice ds cc) (λ x b q k. search (rules, tests)) in
+    let d = digits_decided ds in
+    (λ h. (search rules, d.0 (sym e ∙ h)), λ n. e ∙ d.1 n.1)

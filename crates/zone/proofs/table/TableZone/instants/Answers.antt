@@ -15,6 +15,9 @@ near c =
     let next = c.in-Some.ensures.lookup.3 in
     around _ _ c.args.self.now.lawful c.args.reading.second _ _ (omega (arith, ints)) c.passed-n.ensures _ _ c.offset_after.ensures.value (next.1 _) next.0
 
+pub overflow_sub-after : goal.overflow_sub-after
+overflow_sub-after c = let seen = near (goal.at.overflow_sub-after c).In-Some in omega (arith, ints)
+
 pub returns-in-true-true : goal.returns-in-true-true
 returns-in-true-true c = let seen = near (goal.at.returns-in-true-true c).In-Some in seen.twice _ _ (omega (arith, ints)) (omega (arith, ints)) (omega (arith, ints)) (omega (arith, ints))
 

@@ -1,12 +1,10 @@
 // Requests about dates and the numbers of their days.
-ghost use Rattle.std.specs.Prelude.{◌≡◌};
-ghost use Rattle.calendar.specs.Faults.{outside_calendar};
 ghost use Rattle.answers.specs.Dates.{DayOf};
 
 use crate::answer::Answer;
 use crate::refusal::Refusal;
 use crate::words::Words;
-use calendar::{Cause, Fault, Layer, civil_from_days, days_from_civil};
+use calendar::{Fault, civil_from_days, days_from_civil};
 
 // civil <day>
 pub(crate) fn civil(mut words: Words) -> Result<Answer, Refusal> {
@@ -16,25 +14,13 @@ pub(crate) fn civil(mut words: Words) -> Result<Answer, Refusal> {
     Ok(Answer::Day(date))
 }
 
-fn no_such_date() -> Fault
-    ensures { result ≡ outside_calendar }
-{
-    Fault::found(Cause::OutsideSpan, Layer::Calendar)
-}
-
-// The day of a date. Parts of more than 32 bits are of no date that the calendar has.
+// The day of a date. Parts of more than 32 bits are of no date that the calendar has, as is 0.
 fn day_of(year: i64, month: i64, day: i64) -> Result<i64, Fault>
     ensures { DayOf year month day result }
 {
-    let Ok(year) = i32::try_from(year) else {
-        return Err(no_such_date());
-    };
-    let Ok(month) = u32::try_from(month) else {
-        return Err(no_such_date());
-    };
-    let Ok(day) = u32::try_from(day) else {
-        return Err(no_such_date());
-    };
+    let year = i32::try_from(year).unwrap_or(0);
+    let month = u32::try_from(month).unwrap_or(0);
+    let day = u32::try_from(day).unwrap_or(0);
     days_from_civil(year, month, day)
 }
 

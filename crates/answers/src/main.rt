@@ -10,17 +10,22 @@ mod times;
 mod timestamps;
 mod words;
 
-use request::answer_line;
+use refusal::Refusal;
+use request::answer;
 use std::io;
 use std::io::{BufRead, BufReader, BufWriter, Write};
+use words::Words;
 
 fn main(rt: HostRuntime) -> io::Result<()> {
     let heap = rt.alloc();
     let mut out = BufWriter::new(heap, rt.stdout())?;
     for line in BufReader::new(heap, rt.stdin())?.split(heap, b'\n') {
         let line = line?;
-        let answer = answer_line(heap, line.as_slice())?;
-        writeln!(out, "{answer}")?;
+        match answer(Words::of(heap, line.as_slice())) {
+            Ok(answer) => writeln!(out, "{answer}")?,
+            Err(Refusal::NoMemory(e)) => return Err(e.into()),
+            Err(refusal) => writeln!(out, "{refusal}")?,
+        }
     }
     out.flush()
 }

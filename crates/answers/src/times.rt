@@ -7,7 +7,6 @@ use crate::answer::Answer;
 use crate::refusal::Refusal;
 use crate::words::Words;
 use calendar::Fault;
-use std::alloc::Global;
 use truncation::{
     Granularity, Time32MillisecondType, Time32SecondType, Time64MicrosecondType,
     Time64NanosecondType, TimeUnit, truncate_time,
@@ -63,9 +62,9 @@ impl Time {
 }
 
 // time scalar <unit> <g> <v>
-pub(crate) fn time_scalar(heap: Global, mut words: Words) -> Result<Answer, Refusal> {
+pub(crate) fn time_scalar(mut words: Words) -> Result<Answer, Refusal> {
     let unit = words.unit()?;
-    let name = words.name(heap)?;
+    let name = words.name()?;
     let value = words.value()?;
     words.end()?;
     let time = Time::of(unit, value)?;

@@ -5,7 +5,6 @@ use crate::answer::Answer;
 use crate::refusal::Refusal;
 use crate::words::Words;
 use calendar::Fault;
-use std::alloc::Global;
 use truncation::{
     ArrowTimestampType, Granularity, TimeUnit, TimestampMicrosecondType, TimestampMillisecondType,
     TimestampNanosecondType, TimestampSecondType, date_trunc_timestamp_value,
@@ -34,10 +33,11 @@ fn truncated(
 }
 
 // trunc scalar <unit> <g> <zone> <v>
-pub(crate) fn trunc_scalar(heap: Global, mut words: Words) -> Result<Answer, Refusal> {
+pub(crate) fn trunc_scalar(mut words: Words) -> Result<Answer, Refusal> {
     let unit = words.unit()?;
-    let name = words.name(heap)?;
-    words.no_zone()?;
+    let name = words.name()?;
+    // The word for no zone.
+    words.keyword(b"-")?;
     let value = words.value()?;
     words.end()?;
     let granularity = Granularity::try_from(name.as_slice())?;

@@ -8,17 +8,8 @@ use truncation::TimeUnit;
 // The words of a line that are not read yet, separated by one blank each.
 #[derive(Clone, Copy)]
 pub(crate) struct Words<'a> {
+    heap: Global,
     rest: Option<&'a [u8]>,
-}
-
-// The first word of a line, and what stands after its blank.
-fn split_word(line: &[u8]) -> (&[u8], Option<&[u8]>) {
-    for (i, byte) in line.iter().enumerate() {
-        if *byte == b' ' {
-            return (&line[0..i], Some(&line[i + 1..]));
-        }
-    }
-    (line, None)
 }
 
 // A number: digits, after a minus or not, that fit 64 bits.
@@ -26,13 +17,8 @@ fn number(word: &[u8]) -> Result<i64, Refusal> {
     if word.starts_with(b"+") {
         return Err(Refusal::BadRequest);
     }
-    let Ok(text) = std::str::from_utf8(word) else {
-        return Err(Refusal::BadRequest);
-    };
-    match text.parse::<i64>() {
-        Ok(number) => Ok(number),
-        Err(_) => Err(Refusal::BadRequest),
-    }
+    let text = std::str::from_utf8(word).map_err(|_| Refusal::BadRequest)?;
+    text.parse::<i64>().map_err(|_| Refusal::BadRequest)
 }
 
 fn hex_digit(byte: u8) -> Result<u8, Refusal>
@@ -56,28 +42,26 @@ fn hex_byte(digits: &[u8]) -> Result<u8, Refusal> {
 
 // The bytes of a text of hexadecimal digits.
 fn hex_bytes(heap: Global, digits: &[u8]) -> Result<Vec<u8>, Refusal> {
-    let mut bytes = Vec::new(heap);
-    for pair in digits.chunks(2) {
-        bytes.push(hex_byte(pair)?)?;
-    }
-    Ok(bytes)
+    digits.chunks(2).map(hex_byte).try_collect(heap)
 }
 
 impl<'a> Words<'a> {
-    pub(crate) fn of(line: &'a [u8]) -> Words<'a> {
-        Words { rest: Some(line) }
+    pub(crate) fn of(heap: Global, line: &'a [u8]) -> Words<'a> {
+        Words {
+            heap,
+            rest: Some(line),
+        }
     }
 
     // The next word. None is empty.
     pub(crate) fn word(&mut self) -> Result<&'a [u8], Refusal> {
-        let Some(rest) = self.rest else {
-            return Err(Refusal::BadRequest);
-        };
-        let (word, after) = split_word(rest);
-        if word.is_empty() {
-            return Err(Refusal::BadRequest);
-        }
-        self.rest = after;
+        let rest = self.rest.ok_or(Refusal::BadRequest)?;
+        let mut parts = rest.splitn(2, |byte| *byte == b' ');
+        let word = parts
+            .next()
+            .filter(|word| !word.is_empty())
+            .ok_or(Refusal::BadRequest)?;
+        self.rest = parts.next();
         Ok(word)
     }
 
@@ -86,6 +70,15 @@ impl<'a> Words<'a> {
         match self.rest {
             None => Ok(()),
             Some(_) => Err(Refusal::BadRequest),
+        }
+    }
+
+    // A word that has to stand here.
+    pub(crate) fn keyword(&mut self, wanted: &[u8]) -> Result<(), Refusal> {
+        if self.word()? == wanted {
+            Ok(())
+        } else {
+            Err(Refusal::BadRequest)
         }
     }
 
@@ -112,18 +105,11 @@ impl<'a> Words<'a> {
     }
 
     // The bytes of a name: the word's own, or those that stand in it by hexadecimal digits.
-    pub(crate) fn name(&mut self, heap: Global) -> Result<Vec<u8>, Refusal> {
-        match self.word()? {
-            [b'h', b'e', b'x', b':', digits @ ..] => hex_bytes(heap, digits),
-            word => Ok(word.to_vec(heap)?),
-        }
-    }
-
-    // The word for no zone.
-    pub(crate) fn no_zone(&mut self) -> Result<(), Refusal> {
-        match self.word()? {
-            b"-" => Ok(()),
-            _ => Err(Refusal::BadRequest),
+    pub(crate) fn name(&mut self) -> Result<Vec<u8>, Refusal> {
+        let word = self.word()?;
+        match word.strip_prefix(b"hex:") {
+            Some(digits) => hex_bytes(self.heap, digits),
+            None => Ok(word.to_vec(self.heap)?),
         }
     }
 }

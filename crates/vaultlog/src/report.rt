@@ -14,7 +14,7 @@ pub(crate) struct Heading(pub Options);
 
 impl fmt::Display for Heading {
     fn fmt<W: fmt::Write>(&self, f: &mut fmt::Formatter<W>) -> fmt::Result {
-        let granularity = self.0.granularity.name();
+        let granularity = self.0.granularity;
         let unit = unit_name(self.0.unit);
         let width = instant_width(self.0.unit);
         writeln!(

@@ -85,9 +85,8 @@ fn unit_of(word: &str) -> Result<TimeUnit, BadArgument<'_>>
 fn granularity_of(name: &str) -> Result<Granularity, BadArgument<'_>>
     ensures { MatchResult result (λ g. folded name.now ≡ name_of g) (λ _. (g : Granularity) → folded name.now ≢ name_of g) }
 {
-    Granularity::try_from(name.as_bytes()).map_err(|fault| BadArgument::UnknownGranularity(
-        name, fault,
-    ))
+    let refused = |fault| BadArgument::UnknownGranularity(name, fault);
+    Granularity::try_from(name.as_bytes()).map_err(refused)
 }
 
 // The value of an option: the word after it, unless that begins as an option does.

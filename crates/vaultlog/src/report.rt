@@ -53,15 +53,15 @@ impl<'a> fmt::Display for EntryLine<'a> {
     fn fmt<W: fmt::Write>(&self, f: &mut fmt::Formatter<W>) -> fmt::Result {
         let number = self.number;
         let unit = self.unit;
+        let timestamp = |value| Timestamp { unit, value };
         write!(f, "{number:>5}")?;
         match self.entry.outcome {
             Outcome::Filed { value, start } => {
-                let start = Timestamp { unit, value: start };
-                write!(f, "  {}  {start}", Timestamp { unit, value })
+                write!(f, "  {}  {}", timestamp(value), timestamp(start))
             }
             Outcome::Empty => write!(f, "  {:>20}", "empty"),
             Outcome::Refused { value, fault } => {
-                write!(f, "  {}  refused: {fault}", Timestamp { unit, value })
+                write!(f, "  {}  refused: {fault}", timestamp(value))
             }
             Outcome::NotRead(why) => write_not_read(f, self.entry.text, why),
         }

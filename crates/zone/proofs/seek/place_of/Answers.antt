@@ -1,8 +1,5 @@
 use Rattle.std.proofs.Common.{rules}
 use Rattle.zone.proofs.seek.place_of.Goals as goal
 
-pub returns-in-Two : goal.returns-in-Two
-returns-in-Two g c = (search rules, search rules)
-
 pub returns-in_ok-passing_second-in-Skipped : goal.returns-in_ok-passing_second-in-Skipped
 returns-in_ok-passing_second-in-Skipped g c = (search rules, (search rules, search rules))

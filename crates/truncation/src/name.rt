@@ -66,12 +66,19 @@ impl<'a> TryFrom<&'a [u8]> for Granularity {
         SUPPORTED_GRANULARITIES
             .iter()
             .copied()
-            .find(|granularity| reads_as(name, granularity.name().as_bytes()))
+            .find(|granularity| granularity.is_named(name))
             .ok_or(Fault::found(Cause::UnknownName, Layer::Truncation))
     }
 }
 
 impl Granularity {
+    // Whether a name reads as the granularity's.
+    fn is_named(self, name: &[u8]) -> bool
+        ensures { Decides result (folded name.now ≡ name_of self) }
+    {
+        reads_as(name, self.name().as_bytes())
+    }
+
     // The name, in lower case.
     pub fn name(self) -> &'static str
         ensures { result.now ≡ name_of self }

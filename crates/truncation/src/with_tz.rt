@@ -48,7 +48,7 @@ fn date_trunc_coarse_with_tz<Z: Zone>(
 }
 
 // An instant of whole units, in the unit.
-fn instant_trunc_with_tz<Z: Zone>(
+pub(crate) fn instant_trunc_with_tz<Z: Zone>(
     zone: &Z,
     unit: TimeUnit,
     granularity: Granularity,
@@ -83,7 +83,8 @@ pub fn date_trunc_timestamp_value_with_tz<T: ArrowTimestampType, Z: Zone>(
 ) -> Result<Option<i64>, Fault>
     ensures { EachFilled (TruncatedIn (Z.offset zone.now) T.measure granularity) value result }
 {
-    value
-        .map(|value| general_date_trunc_with_tz(zone, T::unit(), granularity, value))
-        .transpose()
+    match value {
+        None => Ok(None),
+        Some(value) => Ok(Some(general_date_trunc_with_tz(zone, T::unit(), granularity, value)?)),
+    }
 }

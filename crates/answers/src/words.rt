@@ -24,12 +24,8 @@ fn number(word: &[u8]) -> Result<i64, Refusal> {
 fn hex_digit(byte: u8) -> Result<u8, Refusal>
     ensures { IfOk result (λ digit. digit < 16) }
 {
-    match byte {
-        b'0'..=b'9' => Ok(byte - b'0'),
-        b'a'..=b'f' => Ok(byte - b'a' + 10),
-        b'A'..=b'F' => Ok(byte - b'A' + 10),
-        _ => Err(Refusal::BadRequest),
-    }
+    let digit = char::from(byte).to_digit(16).ok_or(Refusal::BadRequest)?;
+    Ok(digit as u8)
 }
 
 // The byte of two hexadecimal digits.
@@ -90,18 +86,12 @@ impl<'a> Words<'a> {
     pub(crate) fn value(&mut self) -> Result<Option<i64>, Refusal> {
         match self.word()? {
             b"null" => Ok(None),
-            word => Ok(Some(number(word)?)),
+            word => number(word).map(Some),
         }
     }
 
     pub(crate) fn unit(&mut self) -> Result<TimeUnit, Refusal> {
-        match self.word()? {
-            b"s" => Ok(TimeUnit::Second),
-            b"ms" => Ok(TimeUnit::Millisecond),
-            b"us" => Ok(TimeUnit::Microsecond),
-            b"ns" => Ok(TimeUnit::Nanosecond),
-            _ => Err(Refusal::BadRequest),
-        }
+        TimeUnit::from_symbol(self.word()?).ok_or(Refusal::BadRequest)
     }
 
     // The bytes of a name: the word's own, or those that stand in it by hexadecimal digits.

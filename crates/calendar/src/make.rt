@@ -8,7 +8,7 @@ use crate::day::OUTSIDE_CALENDAR;
 use crate::fault::Fault;
 
 // Whether the year has a 29 February.
-pub(crate) fn is_leap(year: u16) -> bool
+fn is_leap(year: u16) -> bool
     ensures { result ≡ leap (pos year) }
 {
     if year % 100 == 0 {
@@ -18,12 +18,13 @@ pub(crate) fn is_leap(year: u16) -> bool
     }
 }
 
-pub(crate) fn length_of_month(leap_year: bool, month: u8) -> u8
+pub(crate) fn length_of_month(year: u16, month: u8) -> u8
     requires { (1 ≤ month) × (month ≤ 12) }
-    ensures { result ≡ month_length leap_year month }
+    ensures { result ≡ month_length (leap (pos year)) month }
 {
     match month {
-        2 => { if leap_year { 29 } else { 28 } }
+        2 if is_leap(year) => 29,
+        2 => 28,
         4 | 6 | 9 | 11 => 30,
         _ => 31,
     }
@@ -36,7 +37,7 @@ pub fn month_length(year: i32, month: u32) -> Result<u8, Fault>
     if !(1..=9999).contains(&year) || !(1..=12).contains(&month) {
         return Err(OUTSIDE_CALENDAR);
     }
-    Ok(length_of_month(is_leap(year as u16), month as u8))
+    Ok(length_of_month(year as u16, month as u8))
 }
 
 impl Date {

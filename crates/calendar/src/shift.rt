@@ -8,7 +8,7 @@ use crate::date::Date;
 use crate::date_time::DateTime;
 use crate::day::OUTSIDE_CALENDAR;
 use crate::fault::Fault;
-use crate::make::{is_leap, length_of_month};
+use crate::make::length_of_month;
 use std::ops::Range;
 
 // The months of the years 1 to 9999, counted from January of the year 0.
@@ -33,7 +33,7 @@ fn shifted_date(date: Date, months: i64) -> Result<Date, Fault>
     let index = shifted_month(date, months)?;
     let year = (index / 12) as u16;
     let month = (index % 12 + 1) as u8;
-    let day = date.day.min(length_of_month(is_leap(year), month));
+    let day = date.day.min(length_of_month(year, month));
     Ok(Date { year, month, day })
 }
 

@@ -1,5 +1,5 @@
--- Units, by the nanoseconds in one of them.
-use Rattle.std.specs.Prelude.{◌≡◌, ℕ, ℤ, pos, ◌*ℤ◌}
+-- Units, by the nanoseconds in one of them, and by their symbols.
+use Rattle.std.specs.Prelude.{◌≡◌, ℕ, List, codes, ℤ, pos, ◌*ℤ◌}
 use Rattle.truncation.specs.declared.unit.TimeUnit.{TimeUnit}
 use Rattle.truncation.specs.declared.unit.TimeUnit.TheVariants.{Second, Millisecond, Microsecond, Nanosecond}
 
@@ -11,6 +11,13 @@ scale Nanosecond = 1
 
 abbrev pub scale_of : TimeUnit → ℤ
 scale_of u = pos (scale u)
+
+-- the symbols of units
+abbrev pub symbol_of : TimeUnit → List ℕ
+symbol_of Second = codes "s"
+symbol_of Millisecond = codes "ms"
+symbol_of Microsecond = codes "us"
+symbol_of Nanosecond = codes "ns"
 
 -- a value in nanoseconds
 abbrev pub nanos : TimeUnit → ℤ → ℤ

@@ -10,7 +10,7 @@ use crate::clock::{Instants, Zone};
 use crate::span::{SpanSecond, UNFIT, is_lawful};
 use calendar::Fault;
 
-#[derive(Clone, Copy)]
+#[derive(Clone, Copy, PartialEq, Eq, Debug)]
 pub struct FixedZone {
     seconds: i64,
     ghost lawful: { LawfulOffset seconds },

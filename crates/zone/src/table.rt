@@ -12,7 +12,7 @@ pub struct Change {
 }
 
 // A first offset, and the changes, ascending.
-#[derive(Clone, Copy)]
+#[derive(Clone, Copy, PartialEq, Eq, Debug)]
 pub struct TableZone<'a> {
     first: i64,
     changes: &'a [Change],

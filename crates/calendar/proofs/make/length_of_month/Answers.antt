@@ -1,5 +1,5 @@
 -- The lengths of the months, month by month.
-use Rattle.std.proofs.Common.{◌≡◌, ◌≢◌, ℕ, ◌≤◌, Bool, true, false, T, ◌||◌, eqb, inl, inr, arith, rules, eqb→eq}
+use Rattle.std.proofs.Common.{◌≡◌, ◌≢◌, ◌∙◌, sym, ℕ, ◌≤◌, Bool, true, false, T, ◌||◌, eqb, inl, inr, arith, rules, eqb→eq}
 use Rattle.std.proofs.lemmas.Bool.{ne_eqb}
 use Rattle.arith.proofs.Scan.{scanned}
 use Rattle.arith.specs.Gregorian.{month_length}
@@ -19,13 +19,13 @@ unfolding long_test
 long_month b m l h d₂ d₄ d₆ d₉ d₁₁ =
     eqb→eq 31 (month_length b m) (rw (ne_eqb m 2 d₂, ne_eqb m 4 d₄, ne_eqb m 6 d₆, ne_eqb m 9 d₉, ne_eqb m 11 d₁₁) at (every_month b m l h))
 
-pub returns-then-leap_year : goal.returns-then-leap_year
+pub returns-in-2 : goal.returns-in-2
 unfolding month_length
-returns-then-leap_year c = rw (c.in-2.is, c.if-leap_year.true)
+returns-in-2 c = rw (c.in-2.is, sym c.is_leap.ensures ∙ c.if-is_leap.true)
 
-pub returns-else-leap_year : goal.returns-else-leap_year
+pub returns-in-2-2 : goal.returns-in-2-2
 unfolding month_length
-returns-else-leap_year c = rw (c.in-2.is, c.if-leap_year.false)
+returns-in-2-2 c = rw (c.in-2.is, sym c.is_leap.ensures ∙ c.if-is_leap.false)
 
 pub returns-in-4 : goal.returns-in-4
 unfolding month_length

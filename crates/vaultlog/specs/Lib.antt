@@ -1,4 +1,3 @@
-pub mod Arguments
 pub mod Digits
 pub mod Filing
 pub mod Instants

@@ -3,11 +3,10 @@ ghost use Rattle.std.specs.Prelude.{◌≡◌, MatchResult};
 ghost use Rattle.std.specs.BTreeMap.{IsEmpty, IsUnchanged};
 ghost use Rattle.vaultlog.specs.Filing.{Ascending, OneMore};
 
-use std::alloc::{AllocFailed, Global};
+use std::alloc::{AllocError, Global};
 use std::collections::BTreeMap;
 use std::collections::btree_map::Iter;
-use std::error::Error;
-use std::fmt;
+use thiserror::Error;
 
 #[derive(Drop)]
 pub(crate) struct Buckets {
@@ -15,28 +14,13 @@ pub(crate) struct Buckets {
 }
 
 // Why a row could not be filed.
-#[derive(Clone, Copy, PartialEq, Eq, Debug)]
+#[derive(Debug, Drop, Error)]
 pub(crate) enum Unfiled {
-    NoMemory,
+    #[error("no memory for a bucket")]
+    NoMemory(#[from(alloc)] AllocError),
+    #[error("a bucket has too many rows")]
     CountTooBig,
 }
-
-impl<T: Drop> From<AllocFailed<T>> for Unfiled {
-    fn from(_refused: AllocFailed<T>) -> Unfiled {
-        Unfiled::NoMemory
-    }
-}
-
-impl fmt::Display for Unfiled {
-    fn fmt<W: fmt::Write>(&self, f: &mut fmt::Formatter<W>) -> fmt::Result {
-        match self {
-            Unfiled::NoMemory => f.write_str("no memory for a bucket"),
-            Unfiled::CountTooBig => f.write_str("a bucket has too many rows"),
-        }
-    }
-}
-
-impl Error for Unfiled {}
 
 impl Buckets {
     pub(crate) fn new(heap: Global) -> Buckets

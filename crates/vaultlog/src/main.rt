@@ -23,10 +23,9 @@ use std::{env, io};
 fn file_log(rt: &HostRuntime, options: Options) -> anyhow::Result<Log> {
     let unit = options.unit;
     let mut log = Log::new(rt.alloc());
-    let mut number: u64 = 0;
-    for line in BufReader::new(rt.alloc(), rt.stdin())?.split(rt.alloc(), b'\n') {
+    let lines = BufReader::new(rt.alloc(), rt.stdin())?.split(rt.alloc(), b'\n');
+    for (number, line) in (1u64..).zip(lines) {
         let line = line?;
-        number = number.saturating_add(1);
         if let Some(entry) = entry_of(options, line.as_slice()) {
             log.file(entry.outcome)?;
             rt.println(EntryLine {

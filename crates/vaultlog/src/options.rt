@@ -1,10 +1,10 @@
 // The arguments of a run.
 ghost use Rattle.std.specs.Prelude.{◌≡◌, MatchResult, ◌≢◌};
 ghost use Rattle.truncation.specs.Names.{folded, name_of};
-ghost use Rattle.vaultlog.specs.Arguments.{symbol_of};
+ghost use Rattle.truncation.specs.Units.{symbol_of};
 
 use calendar::Fault;
-use std::fmt;
+use thiserror::Error;
 use truncation::{Granularity, TimeUnit};
 
 pub(crate) const USAGE: &str = "usage: vaultlog --granularity NAME [--unit s|ms|us|ns] < LOG
@@ -36,27 +36,18 @@ pub(crate) enum Command {
 }
 
 // What is wrong with the arguments.
-#[derive(Clone, Copy)]
+#[derive(Clone, Copy, Debug, Error)]
 pub(crate) enum BadArgument<'a> {
+    #[error("unknown option: {0:?}")]
     UnknownOption(&'a str),
+    #[error("{0} wants a value")]
     NoValue(&'a str),
+    #[error("unknown unit: {0:?}")]
     UnknownUnit(&'a str),
+    #[error("refused: {1}: {0:?}")]
     UnknownGranularity(&'a str, Fault),
+    #[error("--granularity is missing")]
     NoGranularity,
-}
-
-impl<'a> fmt::Display for BadArgument<'a> {
-    fn fmt<W: fmt::Write>(&self, f: &mut fmt::Formatter<W>) -> fmt::Result {
-        match self {
-            BadArgument::UnknownOption(word) => write!(f, "unknown option: {word:?}"),
-            BadArgument::NoValue(option) => write!(f, "{option} wants a value"),
-            BadArgument::UnknownUnit(word) => write!(f, "unknown unit: {word:?}"),
-            BadArgument::UnknownGranularity(name, fault) => {
-                write!(f, "refused: {fault}: {name:?}")
-            }
-            BadArgument::NoGranularity => f.write_str("--granularity is missing"),
-        }
-    }
 }
 
 impl<'a> BadArgument<'a> {
@@ -69,17 +60,10 @@ impl<'a> BadArgument<'a> {
     }
 }
 
-// A unit by its symbol; no FromStr, since the type is another crate's.
 fn unit_of(word: &str) -> Result<TimeUnit, BadArgument<'_>>
     ensures { MatchResult result (λ u. word.now ≡ symbol_of u) (λ _. (u : TimeUnit) → word.now ≢ symbol_of u) }
 {
-    match word {
-        "s" => Ok(TimeUnit::Second),
-        "ms" => Ok(TimeUnit::Millisecond),
-        "us" => Ok(TimeUnit::Microsecond),
-        "ns" => Ok(TimeUnit::Nanosecond),
-        _ => Err(BadArgument::UnknownUnit(word)),
-    }
+    TimeUnit::from_symbol(word.as_bytes()).ok_or(BadArgument::UnknownUnit(word))
 }
 
 fn granularity_of(name: &str) -> Result<Granularity, BadArgument<'_>>

@@ -92,9 +92,8 @@ pub(crate) struct BucketLine {
 }
 
 fn write_marks<W: fmt::Write>(f: &mut fmt::Formatter<W>, count: u64) -> fmt::Result {
-    for _ in 0..count.min(MOST_MARKS) {
-        f.write_str("#")?;
-    }
+    let marks = count.min(MOST_MARKS) as usize;
+    write!(f, "{:#<marks$}", "")?;
     if count > MOST_MARKS {
         f.write_str("+")?;
     }

@@ -6,33 +6,26 @@ ghost use Rattle.vaultlog.specs.Rows.{IsNumber, ReadAs};
 
 use crate::instant::read_instant;
 use calendar::Fault;
-use std::fmt;
+use thiserror::Error;
 use truncation::TimeUnit;
 
 // Why a line is no row.
-#[derive(Clone, Copy, PartialEq, Eq, Debug)]
+#[derive(Clone, Copy, PartialEq, Eq, Debug, Error)]
 pub(crate) enum NotRead {
+    #[error("the line is not UTF-8 text")]
     NoText,
+    #[error("neither a number nor an instant")]
     NoRow,
+    #[error("the number is beyond 64 bits")]
     NumberTooBig,
+    #[error("no such date: {0}")]
     NoSuchDate(Fault),
+    #[error("no such time of day")]
     NoSuchTime,
+    #[error("the instant is no whole number of the unit")]
     FinerThanUnit,
+    #[error("the unit cannot hold the instant in 64 bits")]
     OutsideUnit,
-}
-
-impl fmt::Display for NotRead {
-    fn fmt<W: fmt::Write>(&self, f: &mut fmt::Formatter<W>) -> fmt::Result {
-        match self {
-            NotRead::NoText => f.write_str("the line is not UTF-8 text"),
-            NotRead::NoRow => f.write_str("neither a number nor an instant"),
-            NotRead::NumberTooBig => f.write_str("the number is beyond 64 bits"),
-            NotRead::NoSuchDate(fault) => write!(f, "no such date: {fault}"),
-            NotRead::NoSuchTime => f.write_str("no such time of day"),
-            NotRead::FinerThanUnit => f.write_str("the instant is no whole number of the unit"),
-            NotRead::OutsideUnit => f.write_str("the unit cannot hold the instant in 64 bits"),
-        }
-    }
 }
 
 // Whether a line holds no row: a blank line, or a comment.
@@ -53,8 +46,7 @@ fn is_number(text: &[u8]) -> bool
     ensures { Decides result (IsNumber text.now) }
 {
     match text {
-        [b'-' | b'+', digits @ ..] => all_digits(digits),
-        digits => all_digits(digits),
+        [b'-' | b'+', digits @ ..] | digits => all_digits(digits),
     }
 }
 

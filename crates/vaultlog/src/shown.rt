@@ -28,7 +28,7 @@ impl Timestamp {
         ensures { MatchOption result (Fits (nanos self.unit self.value) → ⊥) (λ s. (s.unit ≡ self.unit) × (instant_of s.at ≡ nanos self.unit self.value)) }
     {
         let unit = self.unit;
-        let nanos = self.value.checked_mul(unit.scale())?;
+        let nanos = unit.scaled(self.value).ok()?;
         let at = DateTime::from_timestamp_nanos(nanos);
         Some(ShownInstant { at, unit })
     }

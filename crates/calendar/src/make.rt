@@ -18,15 +18,16 @@ fn is_leap(year: u16) -> bool
     }
 }
 
+// The months' lengths in a common year, January first.
+const MONTH_LENGTHS: [u8; 12] = [31, 28, 31, 30, 31, 30, 31, 31, 30, 31, 30, 31];
+
 pub(crate) fn length_of_month(year: u16, month: u8) -> u8
     requires { (1 ≤ month) × (month ≤ 12) }
     ensures { result ≡ month_length (leap (pos year)) month }
 {
     match month {
         2 if is_leap(year) => 29,
-        2 => 28,
-        4 | 6 | 9 | 11 => 30,
-        _ => 31,
+        _ => MONTH_LENGTHS[usize::from(month - 1)],
     }
 }
 

@@ -1,8 +1,9 @@
 -- Lawful tables, and the clocks that they stand for.
-use Rattle.std.proofs.Common.{Bool, Decides, int_le, refl, ◌≡◌, ℕ, ◌<◌, ◌≤◌, true, false, List, length, ℤ, pos, ◌+ℤ◌, ◌-ℤ◌, ◌≤ℤ◌, ◌<ℤ◌, sym, arith}
+use Rattle.std.proofs.Common.{Bool, Decides, int_le, refl, ◌≡◌, ℕ, zero, suc, ◌+◌, ◌%◌, ◌<◌, ◌≤◌, ◌==◌, ◌&&◌, true, false, List, length, ℤ, pos, ◌+ℤ◌, ◌-ℤ◌, neg_ℤ, unsigned_abs, ◌≤ℤ◌, ◌<ℤ◌, sym, subst, arith}
 use lib.Signed.{lt_z}
 use Rattle.std.proofs.lemmas.Int.{ints}
 use Rattle.std.proofs.lemmas.Bool.{cond-true, cond-false, cond_both}
+use Rattle.std.proofs.lemmas.Bool.Decides.{Decides-and, Decides-eqb, Decides-like}
 use Rattle.std.proofs.lemmas.List.{get_or_default}
 use Rattle.std.proofs.lemmas.List.Elements.{All-from_get_or}
 use Rattle.std.specs.List.{All, IsAllAdjacentAnswer}
@@ -37,6 +38,61 @@ Decides-table first cs true few begins all h = (
   λ _. refl,
 )
 Decides-table first cs false few begins all (k, l, h) = (λ e. absurd (cc), λ t. grind (arith, ints, h outside, t.apart k l))
+
+-- a change is lawful, and far enough from the one before
+abbrev pub Following : Change → Change → Type 0
+Following x y = ((x.second +ℤ pos 172_800) ≤ℤ y.second) × LawfulChange y
+
+-- the same as tests
+abbrev is_fit : Change → Bool
+is_fit c = (unsigned_abs c.second % 60 == 0) && ((int_le (neg_ℤ (pos 9_300_000_000)) c.second && int_le c.second (pos 9_300_000_000)) && ((unsigned_abs c.offset % 60 == 0) && (int_le (neg_ℤ (pos 86_340)) c.offset && int_le c.offset (pos 86_340))))
+
+abbrev pub is_following : Change → Change → Bool
+is_following x y = int_le (x.second +ℤ pos 172_800) y.second && is_fit y
+
+Decides-int_le : (x y : ℤ) → Decides (int_le x y) (x ≤ℤ y)
+Decides-int_le x y = (λ e. grind (arith, ints), λ h. grind (arith, ints))
+
+Decides-three : {P Q R : Type 0} → (x y z : Bool) → Decides x P → Decides y Q → Decides z R → Decides (x && (y && z)) (P × Q × R)
+Decides-three x y z p q r =
+    Decides-like _ (λ h. (h.0, h.1.0, h.1.1)) (λ h. (h.0, (h.1, h.2))) (Decides-and x _ p (Decides-and y z q r))
+
+Decides-fit : (c : Change) → Decides (is_fit c) (LawfulChange c)
+Decides-fit c =
+    let minutes = Decides-eqb (unsigned_abs c.second % 60) 0 in
+    let inside = Decides-and _ _ (Decides-int_le (neg_ℤ (pos 9_300_000_000)) c.second) (Decides-int_le c.second (pos 9_300_000_000)) in
+    let whole = Decides-eqb (unsigned_abs c.offset % 60) 0 in
+    let from = Decides-int_le (neg_ℤ (pos 86_340)) c.offset in
+    let to = Decides-int_le c.offset (pos 86_340) in
+    Decides-three _ _ _ minutes inside (Decides-three _ _ _ whole from to)
+
+pub Decides-following : (x y : Change) → Decides (is_following x y) (Following x y)
+Decides-following x y = Decides-and _ _ (Decides-int_le (x.second +ℤ pos 172_800) y.second) (Decides-fit y)
+
+-- the first change is lawful, and each that follows
+lawful_by_steps : (cs : List Change) → (0 < length cs → LawfulChange (nth cs 0)) → ((k : ℕ) → k + 1 < length cs → Following (nth cs k) (nth cs (k + 1))) → (k : ℕ) → k < length cs → LawfulChange (nth cs k)
+lawful_by_steps cs starts steps zero l = starts l
+lawful_by_steps cs starts steps (suc k) l =
+    let e : k + 1 ≡ suc k = omega arith in
+    subst (λ n. LawfulChange (nth cs n)) e (steps k (omega arith)).1
+
+-- by the answer whether each change but the first follows the one before it
+pub Decides-following_table : (first : ℤ) (cs : List Change) (r : Bool) → length cs ≤ 256 → LawfulOffset first → (0 < length cs → LawfulChange (nth cs 0)) → IsAllAdjacentAnswer (λ x y b. b ≡ is_following x y) cs r → Decides r (LawfulTable first cs)
+Decides-following_table first cs true few begins starts h =
+    let steps : (k : ℕ) → k + 1 < length cs → Following (nth cs k) (nth cs (k + 1)) =
+    λ k l. (Decides-following (nth cs k) (nth cs (k + 1))).0 (sym (h k outside l)) in
+    let all : (k : ℕ) → k < length cs → LawfulChange (nth cs k) = lawful_by_steps cs starts steps in (
+      λ _. record {
+        few = few;
+        begins = begins;
+        minutes = λ k l. (all k l).0;
+        inside = λ k l. (all k l).1;
+        offsets = λ k l. (all k l).2;
+        apart = λ k l. (steps k l).0;
+      },
+      λ _. refl,
+    )
+Decides-following_table first cs false few begins starts (k, l, h) = (λ e. absurd (cc), λ t. absurd (cc (h outside, (Decides-following (nth cs k) (nth cs (k + 1))).1 (t.apart k l, (t.minutes (k + 1) l, t.inside (k + 1) l, t.offsets (k + 1) l)))))
 
 -- the changes that have come at a second stand before the others
 pub parted : (cs : List Change) → Apart cs → (s : ℤ) → IsPartitionedBy (λ (c : Change). int_le c.second s) cs

@@ -18,6 +18,12 @@ pub enum Place {
 // At so many seconds before a reading the clock reads earlier, and at so many after it reads later.
 const REACH: i64 = WIDEST + 1;
 
+// A clock changes on whole minutes only.
+const MINUTE: i64 = 60;
+
+// So many minutes after the minute of that earlier second the clock reads later.
+const ACROSS: u32 = 2_880;
+
 fn in_reach(reading: i64) -> bool
     ensures { Decides result (WithinReach reading) }
 {
@@ -32,23 +38,24 @@ fn reads_later<Z: Zone>(zone: &Z, second: i64, reading: i64) -> Result<bool, Fau
     Ok(reading < second + offset)
 }
 
-// The second at which the clock passes a reading that it skips, by halving.
+// The second at which the clock passes a reading that it skips, by halving over whole minutes.
 fn passing_second<Z: Zone>(zone: &Z, reading: i64) -> Result<i64, Fault>
     requires reach { WithinReach reading }
     requires skipped { SkippedBy (Z.offset zone.now) reading }
     ensures { MatchResult result (λ s. Passes (Z.offset zone.now) reading s) (λ _. ⊥) }
 {
-    let mut earlier = reading - REACH;
-    let mut later = reading + REACH;
+    let first = (reading - REACH).div_euclid(MINUTE);
+    let mut earlier = 0;
+    let mut later = ACROSS;
     while later - earlier > 1 {
         let between = earlier.midpoint(later);
-        if reads_later(zone, between, reading)? {
+        if reads_later(zone, MINUTE * (first + i64::from(between)), reading)? {
             later = between;
         } else {
             earlier = between;
         }
     }
-    Ok(later)
+    Ok(MINUTE * (first + i64::from(later)))
 }
 
 // Where a reading stands on the clock of a zone.

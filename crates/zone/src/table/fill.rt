@@ -4,6 +4,7 @@ ghost use Rattle.calendar.specs.Faults.{found};
 ghost use Rattle.calendar.specs.declared.fault.Cause.TheVariants.{UnfitZoneTable};
 ghost use Rattle.calendar.specs.declared.fault.Layer.TheVariants.{Zone as OfZone};
 ghost use Rattle.zone.specs.Filling.{FillAnswer};
+ghost use Rattle.zone.specs.Spans.{InSpan};
 ghost use Rattle.zone.specs.Tables.{LawfulChange, LawfulTable};
 
 use crate::span::{UNFIT, in_span, is_lawful};
@@ -23,11 +24,17 @@ fn is_lawful_change(change: &Change) -> bool
 }
 
 fn is_apart(earlier: i64, later: i64) -> bool
+    requires { InSpan later }
     ensures { Decides result ((earlier +ℤ pos 172800) ≤ℤ later) }
 {
-    earlier
-        .checked_add(NEAREST)
-        .is_some_and(|nearest| nearest <= later)
+    earlier <= later - NEAREST
+}
+
+// Whether a change is lawful, and far enough from the one before.
+fn follows(earlier: &Change, later: &Change) -> bool
+    ensures { Decides result (((earlier.now.second +ℤ pos 172800) ≤ℤ later.now.second) × LawfulChange later.now) }
+{
+    in_span(later.second) && is_apart(earlier.second, later.second) && is_lawful_change(later)
 }
 
 fn is_lawful_table(first: i64, changes: &[Change]) -> bool
@@ -36,8 +43,7 @@ fn is_lawful_table(first: i64, changes: &[Change]) -> bool
     if changes.len() > MOST || !is_lawful(first) {
         return false;
     }
-    changes.iter().all(is_lawful_change)
-        && changes.is_sorted_by(|earlier, later| is_apart(earlier.second, later.second))
+    changes.first().is_none_or(is_lawful_change) && changes.is_sorted_by(follows)
 }
 
 impl<'a> TableZone<'a> {

@@ -1,5 +1,5 @@
 -- How a name is folded, from the front.
-use Rattle.std.proofs.Common.{◌≡◌, ℕ, ◌-◌, ◌<◌, ◌≤◌, false, eqb, List, [], ◌∷◌, length, get_or, take, drop, refl, arith}
+use Rattle.std.proofs.Common.{◌≡◌, ℕ, ◌-◌, ◌<◌, ◌≤◌, false, eqb, List, [], ◌∷◌, length, get_or, take, drop, refl, ap, arith}
 use Rattle.std.proofs.lemmas.List.{take_all, length-drop}
 use Rattle.std.proofs.lemmas.Bool.{cond-false, and_right}
 use Rattle.std.specs.Char.{to_ascii_lowercase}
@@ -31,3 +31,8 @@ too_short [] h = refl
 too_short (x ∷ []) h = and_right (eqb x 226) _ refl
 too_short (x ∷ y ∷ []) h = and_right (eqb x 226) _ (and_right (eqb y 132) _ refl)
 too_short (x ∷ y ∷ z ∷ xs) h = absurd (omega arith)
+
+-- a word from its front
+pub front_of : (w : List ℕ) (b : ℕ) → 1 ≤ length w → get_or w 0 0 ≡ b → w ≡ b ∷ take (length w - 1) (drop 1 w)
+front_of [] b h e = absurd (omega arith)
+front_of (x ∷ xs) b h e = rw (rest_all 1 (x ∷ xs)) (ap (λ y. y ∷ xs) e)

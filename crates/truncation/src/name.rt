@@ -36,11 +36,14 @@ impl<'a> Iterator for Letters<'a> {
     }
 }
 
-// Whether a name reads as a word of lower case.
-fn reads_as(name: &[u8], word: &[u8]) -> bool
-    ensures { Decides result (folded name.now ≡ word.now) }
+// Whether a first letter, and the bytes after it, read as a word of lower case.
+fn reads_as(first: u8, rest: &[u8], word: &[u8]) -> bool
+    ensures { Decides result (first ∷ folded rest.now ≡ word.now) }
 {
-    Letters(name).eq(word.iter().copied())
+    match word {
+        [head, tail @ ..] => *head == first && Letters(rest).eq(tail.iter().copied()),
+        [] => false,
+    }
 }
 
 const SUPPORTED_GRANULARITIES: [Granularity; 10] = [
@@ -63,20 +66,22 @@ impl<'a> TryFrom<&'a [u8]> for Granularity {
 
     // The granularity of a name.
     fn try_from(name: &'a [u8]) -> Result<Granularity, Fault> {
+        let unknown = Fault::found(Cause::UnknownName, Layer::Truncation);
+        let (first, rest) = letter(name).ok_or(unknown)?;
         SUPPORTED_GRANULARITIES
             .iter()
             .copied()
-            .find(|granularity| granularity.is_named(name))
-            .ok_or(Fault::found(Cause::UnknownName, Layer::Truncation))
+            .find(|granularity| granularity.is_named(first, rest))
+            .ok_or(unknown)
     }
 }
 
 impl Granularity {
-    // Whether a name reads as the granularity's.
-    fn is_named(self, name: &[u8]) -> bool
-        ensures { Decides result (folded name.now ≡ name_of self) }
+    // Whether a first letter, and the bytes after it, read as the granularity's name.
+    fn is_named(self, first: u8, rest: &[u8]) -> bool
+        ensures { Decides result (first ∷ folded rest.now ≡ name_of self) }
     {
-        reads_as(name, self.name().as_bytes())
+        reads_as(first, rest, self.name().as_bytes())
     }
 
     // The name, in lower case.
